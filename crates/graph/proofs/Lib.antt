@@ -1,0 +1,5 @@
+pub mod Counts
+pub mod Walks
+pub mod Ranks
+pub mod Elimination
+pub mod Orders

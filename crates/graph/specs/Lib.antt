@@ -1,0 +1,5 @@
+pub mod Walks
+pub mod Ranks
+pub mod Elimination
+pub mod Orders
+pub mod Counts

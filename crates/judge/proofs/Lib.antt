@@ -1,0 +1,12 @@
+pub mod Cleared
+pub mod DistinctLists
+pub mod Found
+pub mod OrderLaw
+pub mod RightAnswer
+pub mod RingLaw
+pub mod RingPipes
+pub mod SameFindings
+pub mod Steps
+pub mod TurnedLists
+pub mod Unknown
+pub mod Walks

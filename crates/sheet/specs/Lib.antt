@@ -1,0 +1,5 @@
+pub mod Tables
+pub mod Refusals
+pub mod View
+pub mod Making
+pub mod Drawing
