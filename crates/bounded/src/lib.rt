@@ -47,6 +47,14 @@ impl<'a, T: Copy> Bounded<'a, T> {
         Bounded { places, count: 0 }
     }
 
+    // The list that these places held, with the first `count` of them as its entries.
+    pub fn resume(places: &'a mut [T], count: usize) -> Bounded<'a, T>
+        ensures entries { λ r. ⌜ entries r ≡ take count (now (places .entry)) ⌝ }
+        ensures lent { λ r. ⌜ r .places ≡ places .entry ⌝ }
+    {
+        Bounded { places, count }
+    }
+
     // How many entries there are.
     pub fn len(&self) -> usize
         ensures { λ r. ⌜ r ≡ length (entries (now (self .entry))) ⌝ }

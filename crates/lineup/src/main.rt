@@ -3,6 +3,11 @@
 // and the machine chest overflows into the saveall. Each action is printed as it is taken, from what
 // the call answered.
 use bounded::Bounded;
+use cnf::formula::Formula;
+use cnf::lent::LentFormula;
+use cnf::lent::LentSink;
+use cnf::refusal::SinkRefusalDisplay;
+use cnf::sink::Sink;
 use judge::report::Report;
 use judge::report::ReportDisplay;
 use judge::verdict::judge_valves;
@@ -12,6 +17,15 @@ use sheet::place::Sheet;
 use sheet::refusal::Refused;
 use sheet::refusal::SheetRefusalDisplay;
 use sheet::token::DrawingToken;
+use sinks::guard::Guard;
+use sinks::guard::GuardFormula;
+use sinks::guard::GuardSink;
+use sinks::offset::Offset;
+use sinks::offset::OffsetFormula;
+use sinks::offset::OffsetSink;
+use sinks::table::TableFormula;
+use sinks::table::TableSink;
+use sinks::table::TableSinkSink;
 use std::io;
 
 // The pipes to draw, with the slips of the pencil among them.
@@ -118,6 +132,63 @@ fn judge(rt: &LibcRuntime, sheet: &Sheet, values: &[u8]) -> io::Result<()> {
     println!(rt, "valves {values:?}: {report}")
 }
 
+// Adds a clause, and prints it with what the sink said.
+fn add<S: Sink>(rt: &LibcRuntime, sink: &mut S, clause: &[i32]) -> io::Result<()> {
+    match sink.add(clause) {
+        Ok(()) => println!(rt, "clause {clause:?} taken"),
+        Err(refusal) => println!(rt, "clause {clause:?} {refusal}"),
+    }
+}
+
+// Prints clause k as a formula reads it.
+fn tell_clause<F: Formula>(
+    rt: &LibcRuntime,
+    name: &str,
+    formula: &mut F,
+    k: u32,
+) -> io::Result<()> {
+    let mut buffer = [0; 256];
+    let n = formula.copy_literals(k, 0, &mut buffer);
+    let clause = &buffer[0..n];
+    println!(rt, "{name} reads {clause:?}")
+}
+
+// Prints every clause as a formula reads it.
+fn tell<F: Formula>(rt: &LibcRuntime, name: &str, formula: &mut F) -> io::Result<()> {
+    let count = formula.count();
+    for k in 0..count {
+        tell_clause(rt, name, formula, k)?;
+    }
+    Ok(())
+}
+
+// Adds clauses through a guard with the literal 8, and prints what it reads.
+fn add_guarded<S: Sink>(rt: &LibcRuntime, below: &mut S) -> io::Result<()> {
+    let mut guard = Guard::new(below, 8);
+    add(rt, &mut guard, &[-4, -7])?;
+    add(rt, &mut guard, &[])?;
+    add(rt, &mut guard, &[4, 0])?;
+    add(rt, &mut guard, &[-4])?;
+    tell(rt, "guard", &mut guard)
+}
+
+// Adds them through a guard over an offset by 100, and prints what the offset reads.
+fn add_shifted<S: Sink>(rt: &LibcRuntime, below: &mut S) -> io::Result<()> {
+    let mut offset = Offset::new(below, 100);
+    add_guarded(rt, &mut offset)?;
+    tell(rt, "offset", &mut offset)
+}
+
+// The planner's clause that valves 4 and 7 are not open together, on its way through a guard and an
+// offset to a table with four places for literals, and clauses that do not get there.
+fn add_to_table(rt: &LibcRuntime) -> io::Result<()> {
+    let mut literals = [0; 4];
+    let mut pairs = [(0, 0); 2];
+    let mut table = TableSink::new(&mut literals, &mut pairs);
+    add_shifted(rt, &mut table)?;
+    tell(rt, "table", &mut table)
+}
+
 fn main(rt: LibcRuntime) -> io::Result<()> {
     println!(rt, "A line-up for the machine chest")?;
     let mut sheet = Sheet::unmade();
@@ -136,5 +207,6 @@ fn main(rt: LibcRuntime) -> io::Result<()> {
     judge(&rt, &sheet, &[1, 1, 1, 1, 1, 1, 1])?;
     judge(&rt, &sheet, &[2, 2, 2, 1, 2, 2, 1])?;
     judge(&rt, &sheet, &[1, 1, 0, 2, 1, 1, 1])?;
-    judge(&rt, &sheet, &[1, 1, 1, 2, 1, 1])
+    judge(&rt, &sheet, &[1, 1, 1, 2, 1, 1])?;
+    add_to_table(&rt)
 }
