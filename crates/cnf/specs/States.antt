@@ -1,19 +1,21 @@
 -- What a sink means. Assumes nothing.
 --     Layer                     a guard with its literal, or an offset with its shift
 --     State                     top and longest: the largest variable and the most literals it takes; cost: what a clause costs;
---                               entries and units left; layers, the outermost first, and the clauses at the bottom under them
+--                               entries and units left; spare and spare-pairs: what the places of storage or text that are not
+--                               used yet hold; layers, the outermost first, and the clauses at the bottom under them
 --     form-refusal top longest c    why a clause is refused for its length or a literal, or none
 --     add-refusal s c           why a clause is refused, or none: by length, then literal, then room
 --     raised d z, lowered d z   a literal whose variable an offset moves up; one as an offset reads it
 --     without-last c            the clause without its last literal, if any
 --     stored-as ls c            a clause as it comes to the bottom through the layers
 --     read-as ls c              a clause of the bottom as it is read through the layers
---     added s c                 the state with one clause more
+--     added s c                 the state with one clause more: it takes up its cost of the spare places, and one pair
 use Prim.Native.Nat.{ℕ, suc, _+_, _-_}
 use mathlib.Core.Bool.{cond, _||_}
 use mathlib.Core.List.{List, [], _++_, _∷_, map}
 use lib.Dec.{eqb, ltb}
 use lib.IntN.{ℤ, negsuc, pos}
+use lib.ListN.{drop}
 use Rattle.cnf.specs.Clauses.{Clause, bad-length, has-bad-literal}
 use Rattle.cnf.specs.declared.refusal.SinkRefusal.{SinkRefusal}
 use Rattle.cnf.specs.declared.refusal.SinkRefusal.the-variants.{Length, Literal, Room}
@@ -30,6 +32,8 @@ pub record State : Type 0 where
   pub cost : Clause → ℕ
   pub entries : ℕ
   pub units : ℕ
+  pub spare : List ℤ
+  pub spare-pairs : List (ℕ × ℕ)
   pub layers : List Layer
   pub bottom : List Clause
 
@@ -72,6 +76,8 @@ added s c = record {
   cost = s .cost;
   entries = s .entries - 1;
   units = s .units - s .cost c;
+  spare = drop (s .cost c) (s .spare);
+  spare-pairs = drop 1 (s .spare-pairs);
   layers = s .layers;
   bottom = s .bottom ++ (stored-as (s .layers) c ∷ []);
 }

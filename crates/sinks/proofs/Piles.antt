@@ -7,7 +7,7 @@ use mathlib.Core.Path.{_≡_, _∙_, ap, refl, sym}
 use native.Mathlib.Omega.{arith}
 use lib.Dec.{eqb, ltb}
 use lib.IntN.{ℤ, natAbs, negsuc, pos}
-use lib.ListN.{getD, length, length-append}
+use lib.ListN.{drop, getD, length, length-append}
 use Rattle.bounded.specs.Lists.{nth}
 use Rattle.bounded.proofs.Entries.{nth-past}
 use Rattle.cnf.specs.Clauses.{Clause, bad-length, bad-literal, has-bad-literal}
@@ -173,6 +173,8 @@ module _ (g : ℤ) (s : State) (c : Clause) (fine : form-refusal (s .top) (guard
     cost = guarded g s .cost;
     entries = s .entries - 1;
     units = s .units - sym guard-cost i;
+    spare = drop (sym guard-cost i) (s .spare);
+    spare-pairs = drop 1 (s .spare-pairs);
     layers = guard g ∷ s .layers;
     bottom = s .bottom ++ (stored-as (s .layers) (c ++ (g ∷ [])) ∷ []);
   }
@@ -259,6 +261,8 @@ module _ (d : ℕ) (s : State) (c : Clause) (fine : form-refusal (s .top - d) (s
     cost = shifted d s .cost;
     entries = s .entries - 1;
     units = s .units - sym offset-cost i;
+    spare = drop (sym offset-cost i) (s .spare);
+    spare-pairs = drop 1 (s .spare-pairs);
     layers = offset d ∷ s .layers;
     bottom = s .bottom ++ (stored-as (s .layers) (map (raised d) c) ∷ []);
   }

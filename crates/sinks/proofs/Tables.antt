@@ -5,8 +5,8 @@ use Prim.Native.Nat.{ℕ, zero, suc, _+_, _-_, _<_, _≤_, min}
 use native.Mathlib.Nat.{add-assoc, zero-add}
 use native.Mathlib.Omega.{arith}
 use lib.Dec.{eqb, ltb}
-use lib.ListN.{length, drop, getD, take, length-take, length-drop, length-append}
-use Rattle.std.proofs.shelf.Lists.{append-assoc, take-all, take-at, drop-at, drop-append-le, drop-drop, take-append-le, getD-drop, getD-take}
+use lib.ListN.{length, drop, getD, set, take, length-take, length-drop, length-append}
+use Rattle.std.proofs.shelf.Lists.{append-assoc, drop-set-lt, length-set, length-take-le, take-more-set, take-all, take-at, drop-at, drop-append-le, drop-drop, take-append-le, getD-drop, getD-take}
 use Rattle.std.specs.Options.{mapped}
 use Rattle.std.specs.declared.option.Option.{Option}
 use Rattle.std.specs.declared.option.Option.the-variants.{Some, None}
@@ -120,12 +120,17 @@ pair-within places n u k h e l =
     subst Q (getD-take n places k (0, 0) l) (omega (arith, w, e))
 
 -- a clause stored behind the first u literals
-pub stored-front : {X : Type 0} (xs c : List X) (u : ℕ) → u + length c ≤ length xs → take (u + length c) (behind u c xs) ≡ take u xs ++ c
+stored-front : {X : Type 0} (xs c : List X) (u : ℕ) → u + length c ≤ length xs → take (u + length c) (behind u c xs) ≡ take u xs ++ c
 stored-front xs c u h =
     let n : length (take u xs ++ c) ≡ u + length c = simp (length-append, length-take) (omega arith) in
     ap (take (u + length c)) (sym (append-assoc (take u xs) c (drop (u + length c) xs))) ∙ take-at (take u xs ++ c) (drop (u + length c) xs) (u + length c) n
 
-pub stored-length : {X : Type 0} (xs c : List X) (u : ℕ) → u + length c ≤ length xs → length (behind u c xs) ≡ length xs
+stored-rest : {X : Type 0} (xs c : List X) (u : ℕ) → u + length c ≤ length xs → drop (u + length c) (behind u c xs) ≡ drop (u + length c) xs
+stored-rest xs c u h =
+    let n : length (take u xs ++ c) ≡ u + length c = simp (length-append, length-take) (omega arith) in
+    ap (drop (u + length c)) (sym (append-assoc (take u xs) c (drop (u + length c) xs))) ∙ drop-at (take u xs ++ c) (drop (u + length c) xs) (u + length c) n
+
+stored-length : {X : Type 0} (xs c : List X) (u : ℕ) → u + length c ≤ length xs → length (behind u c xs) ≡ length xs
 stored-length xs c u h = simp (length-append, length-take, length-drop) (omega arith)
 
 -- one clause more
@@ -189,23 +194,28 @@ answered false false b e u n t h = ap (λ r. cond r (Some Room) None) (sym h)
 
 -- the answer to a clause of good form: by the room alone
 pub table-answer
-    : (P R : ℕ) (ps : List (ℕ × ℕ)) (xs c : Clause) (b : Bool) → form-refusal 1_073_741_823 256 c ≡ None
-    → (eqb (min P 1_000_000 - length ps) 0 || ltb (min R 1_073_741_824 - length xs) (length c)) ≡ b
-    → cond b (Some Room) None ≡ add-refusal (table-state P R ps xs) c
-table-answer P R ps xs c b t h =
-    answered (bad-length 256 c) (has-bad-literal 1_073_741_823 c) b (min P 1_000_000 - length ps) (min R 1_073_741_824 - length xs) (length c) t h
+    : (pairs : List (ℕ × ℕ)) (n : ℕ) (xs : Clause) (u : ℕ) (c : Clause) (b : Bool) → form-refusal 1_073_741_823 256 c ≡ None
+    → (eqb (min (length pairs) 1_000_000 - n) 0 || ltb (min (length xs) 1_073_741_824 - u) (length c)) ≡ b
+    → cond b (Some Room) None ≡ add-refusal (table-state pairs n xs u) c
+table-answer pairs n xs u c b t h =
+    answered (bad-length 256 c) (has-bad-literal 1_073_741_823 c) b (min (length pairs) 1_000_000 - n) (min (length xs) 1_073_741_824 - u) (length c) t h
 
-module _ (P R : ℕ) (ps : List (ℕ × ℕ)) (xs c : Clause) (u : ℕ) (chained : laid 0 (lengths ps) ≡ ps) (full : sum (lengths ps) ≡ u) (long : length xs ≡ u) (taken : form-refusal 1_073_741_823 256 c ≡ None) where
-  added-here : table-state P R (ps ++ ((u, length c) ∷ [])) (xs ++ c) ≡ added (table-state P R ps xs) c
-  added-here =
-      let e : min P 1_000_000 - length (ps ++ ((u, length c) ∷ [])) ≡ min P 1_000_000 - length ps - 1 = simp length-append (omega arith) in
+-- a table with one clause more
+module _ (pairs : List (ℕ × ℕ)) (n : ℕ) (xs : Clause) (u : ℕ) (c : Clause) (chained : laid 0 (lengths (take n pairs)) ≡ take n pairs) (full : sum (lengths (take n pairs)) ≡ u) (listed : n < length pairs) (inside : u + length c ≤ length xs) where
+  pub table-appended : cut (take (n + 1) (set pairs n (u, length c))) (take (u + length c) (behind u c xs)) ≡ cut (take n pairs) (take u xs) ++ (c ∷ [])
+  table-appended =
+      (λ i. cut (take-more-set pairs n (u, length c) listed i) (stored-front xs c u inside i))
+      ∙ cut-push (take n pairs) (take u xs) c u (length c) chained full (length-take-le u xs (omega arith)) refl
+
+  pub table-added : form-refusal 1_073_741_823 256 c ≡ None → table-state (set pairs n (u, length c)) (n + 1) (behind u c xs) (u + length c) ≡ added (table-state pairs n xs u) c
+  table-added taken =
       let t = cost-of-taken (bad-length 256 c) (has-bad-literal 1_073_741_823 c) (length c) taken in
-      let f : min R 1_073_741_824 - length (xs ++ c) ≡ min R 1_073_741_824 - length xs - table-cost c = simp length-append (omega (arith, t)) in
-      let b = cut-push ps xs c u (length c) chained full long refl in
-      λ i. record { top = 1_073_741_823; longest = 256; cost = table-cost; entries = e i; units = f i; layers = []; bottom = b i }
-
-  pub table-added : (P′ R′ : ℕ) (qs : List (ℕ × ℕ)) (ys : Clause) → P′ ≡ P → R′ ≡ R → qs ≡ ps ++ ((u, length c) ∷ []) → ys ≡ xs ++ c → table-state P′ R′ qs ys ≡ added (table-state P R ps xs) c
-  table-added P′ R′ qs ys p r q y = (λ i. table-state (p i) (r i) (q i) (y i)) ∙ added-here
-
-  pub table-appended : (qs : List (ℕ × ℕ)) (ys : Clause) → qs ≡ ps ++ ((u, length c) ∷ []) → ys ≡ xs ++ c → cut qs ys ≡ cut ps xs ++ (c ∷ [])
-  table-appended qs ys q y = (λ i. cut (q i) (y i)) ∙ cut-push ps xs c u (length c) chained full long refl
+      let e : min (length (set pairs n (u, length c))) 1_000_000 - (n + 1) ≡ min (length pairs) 1_000_000 - n - 1 =
+      omega (arith, length-set pairs n (u, length c)) in
+      let f : min (length (behind u c xs)) 1_073_741_824 - (u + length c) ≡ min (length xs) 1_073_741_824 - u - table-cost c =
+      omega (arith, t, stored-length xs c u inside) in
+      let p : drop (n + 1) (set pairs n (u, length c)) ≡ drop 1 (drop n pairs) =
+      drop-set-lt (n + 1) pairs n (u, length c) (omega arith) ∙ sym (drop-drop 1 n pairs) in
+      let y : drop (u + length c) (behind u c xs) ≡ drop (table-cost c) (drop u xs) =
+      stored-rest xs c u inside ∙ sym (drop-drop (length c) u xs) ∙ ap (λ k. drop k (drop u xs)) (sym t) in
+      λ i. record { top = 1_073_741_823; longest = 256; cost = table-cost; entries = e i; units = f i; spare = y i; spare-pairs = p i; layers = []; bottom = table-appended i }

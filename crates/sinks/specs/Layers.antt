@@ -23,6 +23,8 @@ guarded g s = record {
   cost = priced (s .top) (guard-longest g (s .top) (s .longest)) (s .cost) (λ c. c ++ (g ∷ []));
   entries = s .entries;
   units = s .units;
+  spare = s .spare;
+  spare-pairs = s .spare-pairs;
   layers = guard g ∷ s .layers;
   bottom = s .bottom;
 }
@@ -34,6 +36,8 @@ shifted d s = record {
   cost = priced (s .top - d) (s .longest) (s .cost) (map (raised d));
   entries = s .entries;
   units = s .units;
+  spare = s .spare;
+  spare-pairs = s .spare-pairs;
   layers = offset d ∷ s .layers;
   bottom = s .bottom;
 }

@@ -6,7 +6,7 @@
 --     behind u c xs                a store xs with the clause c behind its first u literals, and every other place as it was
 --     Laid-out ps xs               the pairs are the offsets and lengths of the clauses, and the literals are theirs, one behind the other
 --     table-cost c                 a clause costs its length, and one that is refused for its form nothing
---     table-state places room ps xs    what a table means, with so many places for pairs and literals, the pairs ps and literals xs
+--     table-state pairs n literals u    what a table means whose buffers hold these pairs and literals, the first n and u of them in use
 use Prim.Native.Nat.{ℕ, _+_, _-_, min}
 use mathlib.Core.Bool.{cond}
 use mathlib.Core.List.{List, [], _++_, _∷_, map}
@@ -49,13 +49,15 @@ pub record Laid-out (ps : List (ℕ × ℕ)) (xs : Clause) : Type 0 where
 abbrev pub table-cost : Clause → ℕ
 table-cost c = cond (bad-length 256 c) 0 (cond (has-bad-literal 1_073_741_823 c) 0 (length c))
 
-abbrev pub table-state : ℕ → ℕ → List (ℕ × ℕ) → List ℤ → State
-table-state places room ps xs = record {
+abbrev pub table-state : List (ℕ × ℕ) → ℕ → List ℤ → ℕ → State
+table-state pairs n literals u = record {
   top = 1_073_741_823;
   longest = 256;
   cost = table-cost;
-  entries = min places 1_000_000 - length ps;
-  units = min room 1_073_741_824 - length xs;
+  entries = min (length pairs) 1_000_000 - n;
+  units = min (length literals) 1_073_741_824 - u;
+  spare = drop u literals;
+  spare-pairs = drop n pairs;
   layers = [];
-  bottom = cut ps xs;
+  bottom = cut (take n pairs) (take u literals);
 }

@@ -107,11 +107,11 @@ impl<'a> TableSink<'a> {
 
     // Appends a clause as `add` does. Its contract also says what every place of both buffers holds.
     pub fn append(&mut self, clause: &[i32]) -> Result<(), SinkRefusal>
-        ensures answer { λ r. ⌜ errPart r ≡ add-refusal (table-state (length (now (self .entry) .pairs .now)) (length (now (self .entry) .literals .now)) (take (now (self .entry) .count) (now (self .entry) .pairs .now)) (take (now (self .entry) .used) (now (self .entry) .literals .now))) (now (clause .entry)) ⌝ }
+        ensures answer { λ r. ⌜ errPart r ≡ add-refusal (table-state (now (self .entry) .pairs .now) (now (self .entry) .count) (now (self .entry) .literals .now) (now (self .entry) .used)) (now (clause .entry)) ⌝ }
         ensures counts { λ r. ⌜ made r (λ _. (now (self .exit) .count ≡ now (self .entry) .count + 1) × (now (self .exit) .used ≡ now (self .entry) .used + length (now (clause .entry)))) ⌝ }
         ensures literals { λ r. ⌜ made r (λ _. now (self .exit) .literals .now ≡ behind (now (self .entry) .used) (now (clause .entry)) (now (self .entry) .literals .now)) ⌝ }
         ensures pairs { λ r. ⌜ made r (λ _. now (self .exit) .pairs .now ≡ set (now (self .entry) .pairs .now) (now (self .entry) .count) (now (self .entry) .used, length (now (clause .entry)))) ⌝ }
-        ensures after { λ r. ⌜ table-state (length (now (self .exit) .pairs .now)) (length (now (self .exit) .literals .now)) (take (now (self .exit) .count) (now (self .exit) .pairs .now)) (take (now (self .exit) .used) (now (self .exit) .literals .now)) ≡ cond (isOk r) (added (table-state (length (now (self .entry) .pairs .now)) (length (now (self .entry) .literals .now)) (take (now (self .entry) .count) (now (self .entry) .pairs .now)) (take (now (self .entry) .used) (now (self .entry) .literals .now))) (now (clause .entry))) (table-state (length (now (self .entry) .pairs .now)) (length (now (self .entry) .literals .now)) (take (now (self .entry) .count) (now (self .entry) .pairs .now)) (take (now (self .entry) .used) (now (self .entry) .literals .now))) ⌝ }
+        ensures after { λ r. ⌜ table-state (now (self .exit) .pairs .now) (now (self .exit) .count) (now (self .exit) .literals .now) (now (self .exit) .used) ≡ cond (isOk r) (added (table-state (now (self .entry) .pairs .now) (now (self .entry) .count) (now (self .entry) .literals .now) (now (self .entry) .used)) (now (clause .entry))) (table-state (now (self .entry) .pairs .now) (now (self .entry) .count) (now (self .entry) .literals .now) (now (self .entry) .used)) ⌝ }
         ensures appended { λ r. ⌜ cut (take (now (self .exit) .count) (now (self .exit) .pairs .now)) (take (now (self .exit) .used) (now (self .exit) .literals .now)) ≡ cond (isOk r) (cut (take (now (self .entry) .count) (now (self .entry) .pairs .now)) (take (now (self .entry) .used) (now (self .entry) .literals .now)) ++ (now (clause .entry) ∷ [])) (cut (take (now (self .entry) .count) (now (self .entry) .pairs .now)) (take (now (self .entry) .used) (now (self .entry) .literals .now))) ⌝ }
         ensures lent { λ _. ⌜ (now (self .exit) .literals .name ≡ now (self .entry) .literals .name) × (now (self .exit) .pairs .name ≡ now (self .entry) .pairs .name) ⌝ }
         ensures same { λ r. ⌜ refused r (λ _. now (self .exit) ≡ now (self .entry)) ⌝ }
@@ -165,7 +165,7 @@ pub impl<'a> Formula for TableSink<'a> as TableFormula {
 }
 
 pub impl<'a> Sink for TableSink<'a> as TableSinkSink {
-    ghost state = { λ s. table-state (length (s .pairs .now)) (length (s .literals .now)) (take (s .count) (s .pairs .now)) (take (s .used) (s .literals .now)) };
+    ghost state = { λ s. table-state (s .pairs .now) (s .count) (s .literals .now) (s .used) };
 
     ghost names = { λ s. s .literals .name ∷ (s .pairs .name ∷ []) };
 

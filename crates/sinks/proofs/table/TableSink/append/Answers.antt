@@ -6,26 +6,19 @@ use mathlib.Core.Bool.{Bool, _||_, false, true}
 use mathlib.Core.List.{[], _++_, _∷_}
 use mathlib.Core.Path.{_≡_, _∙_, ap, refl, sym}
 use native.Mathlib.Omega.{arith}
-use Rattle.std.proofs.shelf.Lists.{length-append, length-set, length-take-le, take-more-set}
 use Rattle.std.proofs.shelf.Tests.{eq-eqb, le-ltb, lt-ltb, ne-eqb}
-use Rattle.sinks.proofs.Tables.{table-added, table-answer, table-appended, stored-front, stored-length}
+use Rattle.sinks.specs.Table.{cut, table-state}
+use Rattle.sinks.proofs.Tables.{table-added, table-answer, table-appended}
 use Rattle.sinks.proofs.table.TableSink.append.Needs as need
 use Rattle.sinks.proofs.table.TableSink.append.Needs.{After-left-entries, then-entries-eq0·by·then-entries-eq0, then-entries-eq0·by·else-entries-eq0·then-units-clause}
 
--- the room as `left` tells it is that of the state
-entries-are : (c : need.After-left-entries) → min (length (c .args .self .now .pairs .now)) 1_000_000 - length (take (c .args .self .now .count) (c .args .self .now .pairs .now)) ≡ c .left-entries .result .0
-entries-are c =
-    let s = c .args .self .now in
-    omega (arith, length-take-le (s .count) (s .pairs .now) (s .listed), c .left-entries .ensures .entries)
-
-units-are : (c : need.After-left-entries) → min (length (c .args .self .now .literals .now)) 1_073_741_824 - length (take (c .args .self .now .used) (c .args .self .now .literals .now)) ≡ c .left-entries .result .1
-units-are c =
-    let s = c .args .self .now in
-    omega (arith, length-take-le (s .used) (s .literals .now) (s .inside), c .left-entries .ensures .units)
-
-tested : (c : need.After-left-entries) (b : Bool) → (eqb (c .left-entries .result .0) 0 || ltb (c .left-entries .result .1) (length (c .args .clause .now))) ≡ b
-    → (eqb (min (length (c .args .self .now .pairs .now)) 1_000_000 - length (take (c .args .self .now .count) (c .args .self .now .pairs .now))) 0 || ltb (min (length (c .args .self .now .literals .now)) 1_073_741_824 - length (take (c .args .self .now .used) (c .args .self .now .literals .now))) (length (c .args .clause .now))) ≡ b
-tested c b h = (λ i. eqb (entries-are c i) 0 || ltb (units-are c i) (length (c .args .clause .now))) ∙ h
+-- the test that was made is that of the state
+tested
+    : (c : need.After-left-entries) (b : Bool)
+    → (eqb (c .left-entries .result .0) 0 || ltb (c .left-entries .result .1) (length (c .args .clause .now))) ≡ b
+    → (eqb (min (length (c .args .self .now .pairs .now)) 1_000_000 - c .args .self .now .count) 0 || ltb (min (length (c .args .self .now .literals .now)) 1_073_741_824 - c .args .self .now .used) (length (c .args .clause .now))) ≡ b
+tested c b h =
+    (λ i. eqb (sym (c .left-entries .ensures .entries) i) 0 || ltb (sym (c .left-entries .ensures .units) i) (length (c .args .clause .now))) ∙ h
 
 or-true : (a b : Bool) → b ≡ true → (a || b) ≡ true
 or-true true b h = refl
@@ -58,22 +51,19 @@ returns c =
     let d = need.at·returns c .After-left-entries in
     let t = sym (c .in-Continue-check-form .ensures tt) in
     let e = c .keep .ensures in
-    let k = length-take-le _ _ (s .inside) in
     let some : s .count < length (s .pairs .now) = omega (arith, c .left-entries .ensures .entries, c .if-entries-eq0 .left) in
     let fits : s .used + length cl ≤ length (s .literals .now) = omega (arith, c .left-entries .ensures .units, c .if-units-clause .left, s .inside) in
     let room : (eqb (c .left-entries .result .0) 0 || ltb (c .left-entries .result .1) (length cl)) ≡ false =
     ap (λ b. b || ltb (c .left-entries .result .1) (length cl)) (ne-eqb _ _ (c .if-entries-eq0 .left)) ∙ le-ltb _ _ (c .if-units-clause .left) in
-    let listed : take (c .keep .last .self .count) (c .keep .last .self .pairs .now) ≡ take (s .count) (s .pairs .now) ++ ((s .used, length cl) ∷ []) =
-    (λ i. take (e .counts .0 i) (e .pairs i)) ∙ take-more-set (s .pairs .now) (s .count) (s .used, length cl) some in
-    let kept : take (c .keep .last .self .used) (c .keep .last .self .literals .now) ≡ take (s .used) (s .literals .now) ++ cl =
-    (λ i. take (e .counts .1 i) (e .literals i)) ∙ stored-front (s .literals .now) cl (s .used) fits in
     record {
       answer = table-answer _ _ _ _ cl false t (tested d false room);
       counts = e .counts;
       literals = e .literals;
       pairs = e .pairs;
-      after = table-added _ _ _ _ cl (s .used) (s .chained) (s .full) k t _ _ _ _ (ap length (e .pairs) ∙ length-set (s .pairs .now) _ _) (ap length (e .literals) ∙ stored-length (s .literals .now) cl (s .used) fits) listed kept;
-      appended = table-appended 0 0 _ _ cl (s .used) (s .chained) (s .full) k t _ _ listed kept;
+      after = (λ i. table-state (e .pairs i) (e .counts .0 i) (e .literals i) (e .counts .1 i))
+          ∙ table-added (s .pairs .now) (s .count) (s .literals .now) (s .used) cl (s .chained) (s .full) some fits t;
+      appended = (λ i. cut (take (e .counts .0 i) (e .pairs i)) (take (e .counts .1 i) (e .literals i)))
+          ∙ table-appended (s .pairs .now) (s .count) (s .literals .now) (s .used) cl (s .chained) (s .full) some fits;
       lent = e .lent;
       same = tt;
     }
