@@ -14,7 +14,11 @@ import sys
 
 GENERATED = ("Answers.antt", "Invariants.antt", "Choices.antt", "Proof.antt")
 WORD = r"[^\s(){}\[\];,.:λ@\"]+"
-DEFINED = re.compile(r"(\s*)((?:pub |abbrev |unfoldable |opaque |instance |private )*)(?:(record|data) )?(" + WORD + r")\s*((?:[({].*)?):\s")
+HEAD = r"(\s*)((?:pub |abbrev |unfoldable |opaque |instance |private )*)(?:(record|data) )?(" + WORD + r")\s*((?:[({].*)?)"
+DEFINED = re.compile(HEAD + r":\s")
+# a name whose type begins on the next line
+ALONE = re.compile(HEAD + r"$")
+GOES_ON = re.compile(r"\s+[:({]")
 
 
 def texts():
@@ -26,35 +30,44 @@ def texts():
 
 
 def own_names():
-    """The hyphenated names that specs/ and lemma files define, and those of them that are fields of records."""
-    names, fields = set(), set()
+    """The hyphenated names that specs/ and lemma files define, and those of them that are fields of records, or lemmas."""
+    names, fields, lemmas, library = set(), set(), set(), set()
+    for path in texts():
+        for m in re.finditer(r"use Rattle\.std\.[\w.]*\.\{([^}]*)\}", open(path, encoding="utf-8").read()):
+            library |= {w.strip() for w in m.group(1).split(",")}
     for path in texts():
         if not path.endswith(".antt") or os.path.basename(path) in GENERATED:
             continue
         in_record = False
-        for line in open(path, encoding="utf-8"):
+        lines = open(path, encoding="utf-8").read().splitlines()
+        for line, after in zip(lines, lines[1:] + [""]):
             if line.strip().startswith("--"):
                 continue
             if re.match(r"\S", line):
                 in_record = bool(re.match(r"(?:pub )?record ", line))
-            m = DEFINED.match(line)
+            m = DEFINED.match(line) or (GOES_ON.match(after) and ALONE.match(line))
             if m and "-" in m.group(4) and not m.group(4).startswith("-"):
                 names.add(m.group(4))
+                # a lemma is a value, also where its name begins with that of a type
+                if "/proofs/" in path and not m.group(3) and not (line + after).rstrip().endswith("Type 0"):
+                    lemmas.add(m.group(4))
                 if in_record and m.group(1):
                     fields.add(m.group(4))
-    return names, fields
+    return names - library, fields, lemmas
 
 
-def respelled(name):
+def respelled(name, is_lemma):
     parts = name.replace("getD", "get_or").split("-")
-    if parts[0][0].isupper():
+    if parts[0][0].isupper() and is_lemma:
+        parts[0] = parts[0][0].lower() + parts[0][1:]
+    elif parts[0][0].isupper():
         return "".join(p[0].upper() + p[1:] for p in parts)
     return "_".join(parts)
 
 
 def main():
-    names, fields = own_names()
-    new = {n: respelled(n) for n in names}
+    names, fields, lemmas = own_names()
+    new = {n: respelled(n, n in lemmas) for n in names}
     for n in sorted(names):
         if list(new.values()).count(new[n]) > 1:
             print(f"look: {n} becomes {new[n]}, and so does another name")

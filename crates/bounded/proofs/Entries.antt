@@ -21,9 +21,9 @@ nth_map f (x ∷ xs) zero = refl
 nth_map f (x ∷ xs) (suc k) = nth_map f xs k
 
 -- what was read at i, where it lies among the first n
-pub nth-front
+pub nth_front
     : {X : Type 0} (xs : List X) (n i : ℕ) (x : X) → i < n → i < length xs → x ≡ get_or xs i x → Some x ≡ nth (take n xs) i
-nth-front xs n i x l k e =
+nth_front xs n i x l k e =
     let h : i < length (take n xs) = simp length-take (omega arith) in
     ap Some (e ∙ sym (get_or-take n xs i x l)) ∙ sym (nth_at (take n xs) i x h)
 

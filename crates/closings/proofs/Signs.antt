@@ -20,16 +20,16 @@ module _ (cs : List Clause) (k j : ℕ) (r : Option ℤ) where
   pub told_one : (a a' : ℤ) → nth cs k ≡ Some (a ∷ []) → r ≡ nth (a' ∷ []) j → a' ≡ a → r ≡ nth (get_or cs k []) j
   told_one a a' at e p = e ∙ ap (λ l. nth (l ∷ []) j) p ∙ sym (told cs k j _ at)
 
-  pub told-two
+  pub told_two
       : (a a' b b' : ℤ) → nth cs k ≡ Some (a ∷ (b ∷ [])) → r ≡ nth (a' ∷ (b' ∷ [])) j → a' ≡ a → b' ≡ b
       → r ≡ nth (get_or cs k []) j
-  told-two a a' b b' at e p q =
+  told_two a a' b b' at e p q =
       e ∙ ap (λ l. nth (l ∷ (b' ∷ [])) j) p ∙ ap (λ l. nth (a ∷ (l ∷ [])) j) q ∙ sym (told cs k j _ at)
 
-  pub told-three
+  pub told_three
       : (a a' b b' c c' : ℤ) → nth cs k ≡ Some (a ∷ (b ∷ (c ∷ []))) → r ≡ nth (a' ∷ (b' ∷ (c' ∷ []))) j
       → a' ≡ a → b' ≡ b → c' ≡ c → r ≡ nth (get_or cs k []) j
-  told-three a a' b b' c c' at e p q s =
+  told_three a a' b b' c c' at e p q s =
       e
       ∙ ap (λ l. nth (l ∷ (b' ∷ (c' ∷ []))) j) p
       ∙ ap (λ l. nth (a ∷ (l ∷ (c' ∷ []))) j) q

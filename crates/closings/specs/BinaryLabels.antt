@@ -10,21 +10,21 @@ with_bit m true a = a + m
 with_bit m false a = a
 
 module _ (m : ℕ) where
-  pub less-from
+  pub less_from
       : (p q : Bool) (a b : ℕ) → a < m → (p ≡ true → q ≡ true) → (p ≡ true → a < b) → (q ≡ false → a < b)
       → with_bit m p a < with_bit m q b
-  less-from true true a b l f g h = let z = g refl in omega arith
-  less-from true false a b l f g h = absurd (false≢true (f refl))
-  less-from false true a b l f g h = omega arith
-  less-from false false a b l f g h = h refl
+  less_from true true a b l f g h = let z = g refl in omega arith
+  less_from true false a b l f g h = absurd (false≢true (f refl))
+  less_from false true a b l f g h = omega arith
+  less_from false false a b l f g h = h refl
 
-  pub less-to
+  pub less_to
       : (p q : Bool) (a b : ℕ) → b < m → with_bit m p a < with_bit m q b
       → (p ≡ true → q ≡ true) × (p ≡ true → a < b) × (q ≡ false → a < b)
-  less-to true true a b l h = (λ _. refl, λ _. omega arith, λ e. absurd (true≢false e))
-  less-to true false a b l h = absurd (omega arith)
-  less-to false true a b l h = (λ _. refl, λ e. absurd (false≢true e), λ e. absurd (true≢false e))
-  less-to false false a b l h = (λ e. absurd (false≢true e), λ e. absurd (false≢true e), λ _. h)
+  less_to true true a b l h = (λ _. refl, λ _. omega arith, λ e. absurd (true≢false e))
+  less_to true false a b l h = absurd (omega arith)
+  less_to false true a b l h = (λ _. refl, λ e. absurd (false≢true e), λ e. absurd (true≢false e))
+  less_to false false a b l h = (λ e. absurd (false≢true e), λ e. absurd (false≢true e), λ _. h)
 
   pub bit_low : (p : Bool) (a : ℕ) → a < m → with_bit m p a < m + m
   bit_low true a h = omega arith

@@ -33,11 +33,11 @@ module _ (P : Clause → Type 0) (x : Input) where
   through : List Clause
   through = each r (λ i. each r (row i))
 
-  all-closure
+  all_closure
       : ((i : ℕ) → i < r → P (never_itself x i)) → ((i j k : ℕ) → i < r → j < r → k < r → P (transitive x i j k))
       → ((a : ℕ) → a < arc_count x → P (arc_before x a)) → All P (closure_clauses x)
   unfolding closure_clauses row
-  all-closure f g h =
+  all_closure f g h =
       let square : (i : ℕ) → i < r → All P (each r (row i)) =
       λ i p. all_each P (row i) r (λ j q. all_upto P (λ k. transitive x i j k) r (λ k s. g i j k p q s)) in
       All-append P _ _ (all_upto P (never_itself x) r f)
@@ -165,7 +165,7 @@ module _ (x : Input) (law : Lawful x) where
     found = (
       values,
       extended_extends x (closure_adds x) σ given,
-      all_sat values (closure_clauses x) (all-closure (Meets values) x meets_itself meets_through meets_arc),
+      all_sat values (closure_clauses x) (all_closure (Meets values) x meets_itself meets_through meets_arc),
     )
 
 pub closure_closes : (x : Input) → Lawful x → Closes x (closure_adds x) (closure_clauses x)
@@ -174,7 +174,7 @@ closure_closes x law σ =
 
 pub closure_uses : (x : Input) → Lawful x → Uses x (closure_adds x) (closure_clauses x)
 closure_uses x law =
-    all-closure (All (Own x (closure_adds x))) x
+    all_closure (All (Own x (closure_adds x))) x
     (λ i h. (own_minus i i h h, tt))
     (λ i j k p q s. (own_minus i j p q, (own_minus j k q s, (own_pos i k p s, tt))))
     (λ a h. (
@@ -199,6 +199,6 @@ closure_small x law h =
     record {
       added = omega arith;
       clauses = omega arith;
-      sizes = all-closure (λ c. (1 ≤ length c) × (length c ≤ 64)) x (λ i h. (omega arith, omega arith))
+      sizes = all_closure (λ c. (1 ≤ length c) × (length c ≤ 64)) x (λ i h. (omega arith, omega arith))
           (λ i j k p q s. (omega arith, omega arith)) (λ a h. (omega arith, omega arith));
     }

@@ -89,27 +89,27 @@ module _ (x : Input) where
       ∙ nth_each (row i) r (length_row i) r t p l
       ∙ nth_upto (λ k. transitive x i (t / r) k) r (t % r) (mod_below t r p)
 
-  pub closure-second
+  pub closure_second
       : (k t : ℕ) → k ≡ x.nodes + t → t < x.nodes * (x.nodes * x.nodes)
       → nth (closure_clauses x) k ≡ Some (through_clause t)
-  closure-second k t e h =
+  closure_second k t e h =
       ap (nth (closure_clauses x)) e
       ∙ ap (λ cs. nth cs (r + t)) parts
       ∙ nth_right itself (through ++ arcs) r t length_itself
       ∙ nth_left through arcs t (omega (arith, length_through))
       ∙ through_at t h (positive_cube r t h) (positive_square r (r * r) t h)
 
-  pub closure-third
+  pub closure_third
       : (k t : ℕ) → k ≡ x.nodes + (x.nodes * (x.nodes * x.nodes) + t) → t < arc_count x
       → nth (closure_clauses x) k ≡ Some (arc_before x t)
   unfolding arcs
-  closure-third k t e h =
+  closure_third k t e h =
       ap (nth (closure_clauses x)) e
       ∙ ap (λ cs. nth cs (r + (r * (r * r) + t))) parts
       ∙ nth_right itself (through ++ arcs) r (r * (r * r) + t) length_itself
       ∙ nth_right through arcs (r * (r * r)) t length_through
       ∙ nth_upto (arc_before x) (arc_count x) t h
 
-  pub closure-past
+  pub closure_past
       : (k : ℕ) → x.nodes + x.nodes * (x.nodes * x.nodes) + arc_count x ≤ k → nth (closure_clauses x) k ≡ None
-  closure-past k h = let n = length_closure in nth_past (closure_clauses x) k (omega arith)
+  closure_past k h = let n = length_closure in nth_past (closure_clauses x) k (omega arith)

@@ -19,7 +19,7 @@ use Rattle.closings.specs.NumbersClauses.{all_rise, bit_rises, low_enters, low_l
 use Rattle.closings.specs.NumbersClauses.{bits_for, numbers_adds, numbers_clauses, numbers_of_arc, numbers_t, numbers_y}
 use Rattle.closings.specs.Ranges.{each}
 use Rattle.closings.specs.ArcFacts.{arcs_few, square_few}
-use Rattle.closings.specs.BinaryLabels.{bit_low, digit, digit_more, less-from, less-to, with_bit}
+use Rattle.closings.specs.BinaryLabels.{bit_low, digit, digit_more, less_from, less_to, with_bit}
 use Rattle.closings.specs.Blocks.{arc_positive, node_positive, value_arc, value_node, values, values_extend}
 use Rattle.closings.specs.Blocks.{own_arc, own_chosen, own_minus_arc, own_minus_node, own_node}
 use Rattle.closings.specs.Horn.{meets_minus, meets_pos, only_minus, only_pos, past_minus, past_pos}
@@ -108,7 +108,7 @@ module _ (x : Input) (law : Lawful x) where
       unfolding label
       rises zero l m t = absurd (omega arith)
       rises (suc zero) l m t =
-          less-from (2 ^ 0) (τ (numbers_y x (arc_at x a).from 1)) (τ (numbers_y x (arc_at x a).to 1)) 0 0 (omega arith)
+          less_from (2 ^ 0) (τ (numbers_y x (arc_at x a).from 1)) (τ (numbers_y x (arc_at x a).to 1)) 0 0 (omega arith)
           (λ _. enters) (λ e. absurd (false≢true (sym leaves ∙ e))) (λ e. absurd (false≢true (sym e ∙ enters)))
         where
           leaves : τ (numbers_y x (arc_at x a).from 1) ≡ false
@@ -129,10 +129,10 @@ module _ (x : Input) (law : Lawful x) where
           past_t : {c : Clause} → Meets τ (minus (numbers_t x a n) ∷ c) → Meets τ c
           past_t h = past_minus (numbers_t x a n) (t_positive a n l) t h
 
-          past-from
+          past_from
               : {c : Clause} → τ (numbers_y x (arc_at x a).from n) ≡ true
               → Meets τ (minus (numbers_y x (arc_at x a).from n) ∷ c) → Meets τ c
-          past-from p h = past_minus (numbers_y x (arc_at x a).from n) (y_positive (arc_at x a).from n l) p h
+          past_from p h = past_minus (numbers_y x (arc_at x a).from n) (y_positive (arc_at x a).from n l) p h
 
           down : Meets τ (pos (numbers_t x a (n - 1)) ∷ []) → τ (numbers_t x a (suc k)) ≡ true
           down h =
@@ -143,10 +143,10 @@ module _ (x : Input) (law : Lawful x) where
               : (τ (numbers_t x a (suc k)) ≡ true → label (arc_at x a).from (suc k) < label (arc_at x a).to (suc k))
               → label (arc_at x a).from n < label (arc_at x a).to n
           step ih =
-              less-from (2 ^ suc k) (τ (numbers_y x (arc_at x a).from n)) (τ (numbers_y x (arc_at x a).to n))
+              less_from (2 ^ suc k) (τ (numbers_y x (arc_at x a).from n)) (τ (numbers_y x (arc_at x a).to n))
               (label (arc_at x a).from (suc k)) (label (arc_at x a).to (suc k)) (label_low (arc_at x a).from (suc k))
-              (λ p. only_pos (numbers_y x (arc_at x a).to n) (past-from p (past_t (met.at_bit_rises n (omega arith) m))))
-              (λ p. ih (down (past-from p (past_t (met.at_rest_leaves n (omega arith) m)))))
+              (λ p. only_pos (numbers_y x (arc_at x a).to n) (past_from p (past_t (met.at_bit_rises n (omega arith) m))))
+              (λ p. ih (down (past_from p (past_t (met.at_rest_leaves n (omega arith) m)))))
               (λ q. ih (down (past_pos (numbers_y x (arc_at x a).to n) q (past_t (met.at_rest_enters n (omega arith) m)))))
 
     no_ring : (σ : Values) → Extends x (numbers_adds x) σ τ → Sat τ (numbers_clauses x) → Ringless (Chosen x σ)
@@ -211,33 +211,33 @@ module _ (x : Input) (law : Lawful x) where
             let p : i % 2 ^ k ≡ with_bit (2 ^ m) (digit i m) (i % 2 ^ m) = ap (λ c. i % 2 ^ c) e ∙ digit_more i m in
             let q : j % 2 ^ k ≡ with_bit (2 ^ m) (digit j m) (j % 2 ^ m) = ap (λ c. j % 2 ^ c) e ∙ digit_more j m in
             let less = subst₂ (λ (b c : ℕ). b < c) p q (ltb-true (i % 2 ^ k) (j % 2 ^ k) t) in
-            let z = less-to (2 ^ m) (digit i m) (digit j m) (i % 2 ^ m) (j % 2 ^ m) (mod_below j (2 ^ m) (pow_pos m)) less in
+            let z = less_to (2 ^ m) (digit i m) (digit j m) (i % 2 ^ m) (j % 2 ^ m) (mod_below j (2 ^ m) (pow_pos m)) less in
             record { rises = z.0; leaves = z.1; enters = z.2 }
 
         -- a clause that begins with −t(a,k), with −y(i,k) or with y(j,k)
-        after-t
+        after_t
             : (k : ℕ) (c : Clause) → 1 ≤ k → k ≤ bits_for x.nodes → (Tells k → Meets τ c)
             → Meets τ (minus (numbers_t x a k) ∷ c)
-        after-t k c l m f =
+        after_t k c l m f =
             elim (cases_Bool (T a k)) [
               | inl t ↦ meets_later τ (minus (numbers_t x a k)) c (f (tells k l t))
               | inr e ↦ meets_minus (numbers_t x a k) (t_positive a k l) (at_t k l m ∙ e)
             ]
 
-        after-from
+        after_from
             : (k : ℕ) (c : Clause) → 1 ≤ k → k ≤ bits_for x.nodes → (Y (arc_at x a).from k ≡ true → Meets τ c)
             → Meets τ (minus (numbers_y x (arc_at x a).from k) ∷ c)
-        after-from k c l m f =
+        after_from k c l m f =
             let v = numbers_y x (arc_at x a).from k in
             elim (cases_Bool (Y (arc_at x a).from k)) [
               | inl t ↦ meets_later τ (minus v) c (f t)
               | inr e ↦ meets_minus v (y_positive (arc_at x a).from k l) (at_from k l m ∙ e)
             ]
 
-        after-to
+        after_to
             : (k : ℕ) (c : Clause) → 1 ≤ k → k ≤ bits_for x.nodes → (Y (arc_at x a).to k ≡ false → Meets τ c)
             → Meets τ (pos (numbers_y x (arc_at x a).to k) ∷ c)
-        after-to k c l m f =
+        after_to k c l m f =
             let v = numbers_y x (arc_at x a).to k in
             elim (cases_Bool (Y (arc_at x a).to k)) [
               | inl t ↦ meets_pos v (y_positive (arc_at x a).to k l) (at_to k l m ∙ t)
@@ -288,17 +288,17 @@ module _ (x : Input) (law : Lawful x) where
         meets_arc : OfArc (Meets τ) x a
         meets_arc =
             record {
-              at_low_leaves = after-t 1 _ (omega arith) has_bit (λ t.
-                  after-from 1 _ (omega arith) has_bit (λ y. absurd (none_rise (t.leaves y))));
-              at_low_enters = after-t 1 _ (omega arith) has_bit (λ t.
-                  after-to 1 _ (omega arith) has_bit (λ y. absurd (none_rise (t.enters y))));
-              at_bit_rises = λ k l m. after-t k _ (omega arith) m (λ t. after-from k _ (omega arith) m (λ y.
+              at_low_leaves = after_t 1 _ (omega arith) has_bit (λ t.
+                  after_from 1 _ (omega arith) has_bit (λ y. absurd (none_rise (t.leaves y))));
+              at_low_enters = after_t 1 _ (omega arith) has_bit (λ t.
+                  after_to 1 _ (omega arith) has_bit (λ y. absurd (none_rise (t.enters y))));
+              at_bit_rises = λ k l m. after_t k _ (omega arith) m (λ t. after_from k _ (omega arith) m (λ y.
                   meets_pos (numbers_y x (arc_at x a).to k) (y_positive (arc_at x a).to k (omega arith))
                   (at_to k (omega arith) m ∙ t.rises y)));
-              at_rest_leaves = λ k l m. after-t k _ (omega arith) m (λ t.
-                  after-from k _ (omega arith) m (λ y. rest k l m (t.leaves y)));
-              at_rest_enters = λ k l m. after-t k _ (omega arith) m (λ t.
-                  after-to k _ (omega arith) m (λ y. rest k l m (t.enters y)));
+              at_rest_leaves = λ k l m. after_t k _ (omega arith) m (λ t.
+                  after_from k _ (omega arith) m (λ y. rest k l m (t.leaves y)));
+              at_rest_enters = λ k l m. after_t k _ (omega arith) m (λ t.
+                  after_to k _ (omega arith) m (λ y. rest k l m (t.enters y)));
               at_all_rise = meets_all_rise;
             }
 
@@ -317,10 +317,10 @@ numbers_uses x law = all_numbers (All (Own x (numbers_adds x))) x of
   where
     of : (a : ℕ) → a < arc_count x → OfArc (All (Own x (numbers_adds x))) x a
     of a h = record {
-      at_low_leaves = (minus_t 1 (omega arith) bit, (minus-from 1 (omega arith) bit, tt));
+      at_low_leaves = (minus_t 1 (omega arith) bit, (minus_from 1 (omega arith) bit, tt));
       at_low_enters = (minus_t 1 (omega arith) bit, (pos_to 1 (omega arith) bit, tt));
-      at_bit_rises = λ k l m. (minus_t k (omega arith) m, (minus-from k (omega arith) m, (pos_to k (omega arith) m, tt)));
-      at_rest_leaves = λ k l m. (minus_t k (omega arith) m, (minus-from k (omega arith) m, (rest k l m, tt)));
+      at_bit_rises = λ k l m. (minus_t k (omega arith) m, (minus_from k (omega arith) m, (pos_to k (omega arith) m, tt)));
+      at_rest_leaves = λ k l m. (minus_t k (omega arith) m, (minus_from k (omega arith) m, (rest k l m, tt)));
       at_rest_enters = λ k l m. (minus_t k (omega arith) m, (pos_to k (omega arith) m, (rest k l m, tt)));
       at_all_rise = (own_chosen x (numbers_adds x) a h, (pos_t (bits_for x.nodes) bit (omega arith), tt));
     }
@@ -331,9 +331,9 @@ numbers_uses x law = all_numbers (All (Own x (numbers_adds x))) x of
         minus_t : (k : ℕ) → 1 ≤ k → k ≤ bits_for x.nodes → Own x (numbers_adds x) (minus (numbers_t x a k))
         minus_t k l m = own_minus_arc x (bits_for x.nodes) a k h l m
 
-        minus-from
+        minus_from
             : (k : ℕ) → 1 ≤ k → k ≤ bits_for x.nodes → Own x (numbers_adds x) (minus (numbers_y x (arc_at x a).from k))
-        minus-from k l m = own_minus_node x (bits_for x.nodes) (arc_at x a).from k (law.ends a h).0 l m
+        minus_from k l m = own_minus_node x (bits_for x.nodes) (arc_at x a).from k (law.ends a h).0 l m
 
         pos_to : (k : ℕ) → 1 ≤ k → k ≤ bits_for x.nodes → Own x (numbers_adds x) (pos (numbers_y x (arc_at x a).to k))
         pos_to k l m = own_node x (bits_for x.nodes) (arc_at x a).to k (law.ends a h).1 l m

@@ -62,10 +62,10 @@ module _ (x : Input) (a : ℕ) where
       ∙ ap (nth (middle ++ (all_rise x a ∷ []))) z
       ∙ nth_right middle (all_rise x a ∷ []) w 0 length_middle
 
-  bit-clause
+  bit_clause
       : (c m : ℕ) → c ≡ m + 2 → m < (bits_for x.nodes - 1) * 3 → nth (numbers_of_arc x a) c ≡ nth (of_bit (m / 3)) (m % 3)
   unfolding middle
-  bit-clause c m e h =
+  bit_clause c m e h =
       after_two c m e
       ∙ nth_left middle (all_rise x a ∷ []) m (omega (arith, length_middle))
       ∙ nth_each of_bit 3 length_of_bit (bits_for x.nodes - 1) m (omega arith) h
@@ -136,24 +136,24 @@ module _ (x : Input) (law : Lawful x) (k q : ℕ) (e : q ≡ bits_for x.nodes - 
             → nth (numbers_clauses x) k ≡ nth (of_bit x (k / (q * 3 + 3)) ((k % (q * 3 + 3) - 2) / 3)) t
         inner t z =
             here
-            ∙ bit-clause x (k / (q * 3 + 3)) (k % (q * 3 + 3)) (k % (q * 3 + 3) - 2) (omega (arith, n0, n1)) (omega arith)
+            ∙ bit_clause x (k / (q * 3 + 3)) (k % (q * 3 + 3)) (k % (q * 3 + 3) - 2) (omega (arith, n0, n1)) (omega arith)
             ∙ ap (nth (of_bit x (k / (q * 3 + 3)) ((k % (q * 3 + 3) - 2) / 3))) z
 
         low : (k % (q * 3 + 3) - 2) / 3 + 2 ≤ bits_for x.nodes
         low = omega arith
 
-        pub found-bit-rises
+        pub found_bit_rises
             : (k % (q * 3 + 3) - 2) % 3 ≡ 0 → Found x k (BitRises (k / (q * 3 + 3)) ((k % (q * 3 + 3) - 2) / 3 + 2))
         unfolding of_bit
-        found-bit-rises z = record { is = inner 0 z; within = (h, omega arith, low) }
+        found_bit_rises z = record { is = inner 0 z; within = (h, omega arith, low) }
 
-        pub found-rest-leaves
+        pub found_rest_leaves
             : (k % (q * 3 + 3) - 2) % 3 ≡ 1 → Found x k (RestLeaves (k / (q * 3 + 3)) ((k % (q * 3 + 3) - 2) / 3 + 2))
         unfolding of_bit
-        found-rest-leaves z = record { is = inner 1 z; within = (h, omega arith, low) }
+        found_rest_leaves z = record { is = inner 1 z; within = (h, omega arith, low) }
 
-        pub found-rest-enters
+        pub found_rest_enters
             : ((k % (q * 3 + 3) - 2) % 3 ≢ 0) → ((k % (q * 3 + 3) - 2) % 3 ≢ 1)
             → Found x k (RestEnters (k / (q * 3 + 3)) ((k % (q * 3 + 3) - 2) / 3 + 2))
         unfolding of_bit
-        found-rest-enters n z = record { is = inner 2 (omega arith); within = (h, omega arith, low) }
+        found_rest_enters n z = record { is = inner 2 (omega arith); within = (h, omega arith, low) }

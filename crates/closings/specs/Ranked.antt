@@ -23,10 +23,10 @@ abbrev some_joins : Values → ℕ → ℕ → List Arc → Bool
 some_joins σ i j [] = false
 some_joins σ i j (a ∷ es) = joins σ i j a || some_joins σ i j es
 
-some-decides
+some_decides
     : (σ : Values) (i j : ℕ) (es : List Arc)
     → Decides (some_joins σ i j es) ((k : ℕ) × (k < length es) × HoldsAt (Joins σ i j) es k)
-some-decides σ i j es =
+some_decides σ i j es =
     Decides-by_or (joins σ i j) (Joins σ i j) (some_joins σ i j)
     (λ a.
     Decides-and (a.from == i) (a.to == j && σ a.variable) (Decides-eqb a.from i)
@@ -41,14 +41,14 @@ module _ (x : Input) (σ : Values) where
   pub edge_chosen : (i j : ℕ) → edge i j ≡ true → Chosen x σ i j
   unfolding edge
   edge_chosen i j h =
-      let d = (some-decides σ i j x.arcs).0 h in
+      let d = (some_decides σ i j x.arcs).0 h in
       let s = d.2 no_arc in
       record { arc = d.0; is_arc = d.1; leaves = s.0; enters = s.1.0; chosen = s.1.1 }
 
   pub chosen_edge : (i j : ℕ) → Chosen x σ i j → edge i j ≡ true
   unfolding edge
   chosen_edge i j s =
-      (some-decides σ i j x.arcs).1 (s.arc, s.is_arc, λ d. at d (get_or_default x.arcs s.arc no_arc d s.is_arc))
+      (some_decides σ i j x.arcs).1 (s.arc, s.is_arc, λ d. at d (get_or_default x.arcs s.arc no_arc d s.is_arc))
     where
       at : (d : Arc) → slice_index_or x.arcs s.arc no_arc ≡ slice_index_or x.arcs s.arc d → Joins σ i j (slice_index_or x.arcs s.arc d)
       at d e = subst (Joins σ i j) e (s.leaves, (s.enters, s.chosen))

@@ -23,16 +23,16 @@ use Rattle.closings.specs.Horn.{meets_minus, meets_pos, only_minus, only_pos, pa
 use Rattle.closings.specs.RangesLemmas.{all_each, all_left, all_right, all_upto, each_all, upto_all}
 use Rattle.closings.specs.Ranked.{ranked}
 use Rattle.closings.specs.SomeOf.{meets_some, some_true}
-use Rattle.closings.specs.StepsListing.{length-steps, some_step_length}
+use Rattle.closings.specs.StepsListing.{length_steps, some_step_length}
 
 -- what holds of each clause
 module _ (P : Clause → Type 0) (x : Input) where
-  all-steps
+  all_steps
       : ((i k : ℕ) → i < x.nodes → 2 ≤ k → k < x.nodes → P (label_rises x i k))
       → ((a k : ℕ) → a < arc_count x → 1 ≤ k → k < x.nodes → P (step_leaves x a k) × P (step_enters x a k))
       → ((a : ℕ) → a < arc_count x → P (some_step x a)) → All P (steps_clauses x)
   unfolding steps_clauses
-  all-steps f g h =
+  all_steps f g h =
       All-append P _ _
       (all_each P (λ i. upto (x.nodes - 2) (λ t. label_rises x i (t + 2))) x.nodes (λ i p.
       all_upto P (λ t. label_rises x i (t + 2)) (x.nodes - 2) (λ t l. f i (t + 2) p (omega arith) (omega arith))))
@@ -286,7 +286,7 @@ module _ (x : Input) (law : Lawful x) where
       τ,
       τ_extends,
       all_sat τ (steps_clauses x)
-          (all-steps (Meets τ) x meets_rises (λ a k p l m. (meets_leaves a k p l m, meets_enters a k p l m)) meets_some_step),
+          (all_steps (Meets τ) x meets_rises (λ a k p l m. (meets_leaves a k p l m, meets_enters a k p l m)) meets_some_step),
     )
 
 pub steps_closes : (x : Input) → Lawful x → Closes x (steps_adds x) (steps_clauses x)
@@ -294,7 +294,7 @@ steps_closes x law σ = (λ e. ringless x law σ e.0 e.1 e.2, found x law σ)
 
 pub steps_uses : (x : Input) → Lawful x → Uses x (steps_adds x) (steps_clauses x)
 steps_uses x law =
-    all-steps (All (Own x (steps_adds x))) x
+    all_steps (All (Own x (steps_adds x))) x
     (λ i k p l m.
     (own_minus_node x q i (k - 1) p (omega arith) (omega arith), (own_node x q i k p (omega arith) (omega arith), tt)))
     (λ a k p l m.
@@ -315,7 +315,7 @@ pub steps_small : (x : Input) → Lawful x → x.nodes ≤ 64 → Small (steps_a
 steps_small x law h =
     let a = arcs_few x law in
     let b = square_few x.nodes h in
-    let n = length-steps x in
+    let n = length_steps x in
     let m : arc_count x ≤ 4096 = omega arith in
     let p = mul-le x.nodes (x.nodes - 1) 64 63 h (omega arith) in
     let o = mul-le (arc_count x) (x.nodes - 1) 4096 63 m (omega arith) in
@@ -324,7 +324,7 @@ steps_small x law h =
     record {
       added = omega arith;
       clauses = omega arith;
-      sizes = all-steps (λ c. (1 ≤ length c) × (length c ≤ 64)) x (λ i k p l m. (omega arith, omega arith))
+      sizes = all_steps (λ c. (1 ≤ length c) × (length c ≤ 64)) x (λ i k p l m. (omega arith, omega arith))
           (λ a k p l m. ((omega arith, omega arith), (omega arith, omega arith)))
           (λ a p.
           let y = (law.ends a p).0 in

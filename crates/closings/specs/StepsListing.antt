@@ -75,16 +75,16 @@ module _ (x : Input) where
   unfolding of_arcs
   length_arcs = length_each (steps_of_arc x) ((x.nodes - 1) * 2 + 1) length_arc (arc_count x)
 
-  pub length-steps
+  pub length_steps
       : length (steps_clauses x) ≡ x.nodes * (x.nodes - 2) + arc_count x * ((x.nodes - 1) * 2 + 1)
-  length-steps = ap length parts ∙ length-append rows of_arcs ∙ omega (arith, length_rows, length_arcs)
+  length_steps = ap length parts ∙ length-append rows of_arcs ∙ omega (arith, length_rows, length_arcs)
 
   -- the clauses of the nodes
-  rises-at
+  rises_at
       : (k : ℕ) → 0 < x.nodes - 2 → k < x.nodes * (x.nodes - 2)
       → nth (steps_clauses x) k ≡ Some (label_rises x (k / (x.nodes - 2)) (k % (x.nodes - 2) + 2))
   unfolding rows row_of
-  rises-at k p h =
+  rises_at k p h =
       let q = x.nodes - 2 in
       ap (λ cs. nth cs k) parts
       ∙ nth_left rows of_arcs k (omega (arith, length_rows))
@@ -93,11 +93,11 @@ module _ (x : Input) where
 
   -- the clauses of the arcs: number n among them stands in row n / w and column n % w
   module _ (n w : ℕ) (wide : w ≡ (x.nodes - 1) * 2 + 1) where
-    of-arc-at
+    of_arc_at
         : n / w < arc_count x
         → nth (steps_clauses x) (x.nodes * (x.nodes - 2) + n) ≡ nth (steps_of_arc x (n / w)) (n % w)
     unfolding of_arcs
-    of-arc-at h =
+    of_arc_at h =
         let l : n < arc_count x * w =
         ⊎_elim (λ (b : n < arc_count x * w). b)
         (λ (b : arc_count x * w ≤ n). absurd (let z = le-div (arc_count x) n w (omega arith) b in omega arith))
@@ -112,7 +112,7 @@ module _ (x : Input) where
         ⊎_elim (λ (b : n < arc_count x * w). absurd (let z = div_below n w (arc_count x) (omega arith) b in omega arith))
         (λ (b : arc_count x * w ≤ n). b) (cases_lt n (arc_count x * w)) in
         let e = ap (λ v. arc_count x * v) wide in
-        nth_past (steps_clauses x) _ (omega (arith, length-steps, e))
+        nth_past (steps_clauses x) _ (omega (arith, length_steps, e))
 
   -- within an arc's clauses
   some_step_at : (a c : ℕ) → c ≡ (x.nodes - 1) * 2 → nth (steps_of_arc x a) c ≡ Some (some_step x a)
@@ -134,10 +134,10 @@ module _ (x : Input) where
   unfolding pair_of
   leaves_at a c h e = pair_at a c h ∙ ap (nth (pair_of a (c / 2))) e
 
-  enters-at
+  enters_at
       : (a c : ℕ) → c < (x.nodes - 1) * 2 → c % 2 ≡ 1 → nth (steps_of_arc x a) c ≡ Some (step_enters x a (c / 2 + 1))
   unfolding pair_of
-  enters-at a c h e = pair_at a c h ∙ ap (nth (pair_of a (c / 2))) e
+  enters_at a c h e = pair_at a c h ∙ ap (nth (pair_of a (c / 2))) e
 
   -- the literals of the clause that an arc has a step
   pub some_step_length : (a : ℕ) → 0 < x.nodes → length (some_step x a) ≡ x.nodes
@@ -164,7 +164,7 @@ module _ (x : Input) (k q w : ℕ) (eq : q ≡ x.nodes - 1) (ew : w ≡ x.nodes 
       let p = factor_positive x.nodes w k h in
       let l = mod_below k w p in
       record {
-        is = rw ew (rises-at x k (omega arith) (rw ew at h));
+        is = rw ew (rises_at x k (omega arith) (rw ew at h));
         within = (div_below k w x.nodes p h, omega arith, omega arith);
       }
 
@@ -197,26 +197,26 @@ module _ (x : Input) (k q w : ℕ) (eq : q ≡ x.nodes - 1) (ew : w ≡ x.nodes 
 
       at_arc : nth (steps_clauses x) k ≡ nth (steps_of_arc x a) c
       unfolding a c n
-      at_arc = rw back at (of-arc-at x n (q * 2 + 1) wide h)
+      at_arc = rw back at (of_arc_at x n (q * 2 + 1) wide h)
 
-      pub found-some-step
+      pub found_some_step
           : q * 2 ≤ (k - x.nodes * w) % (q * 2 + 1) → Found x k (SomeStep ((k - x.nodes * w) / (q * 2 + 1)))
       unfolding a c
-      found-some-step l = let low = c_low in record { is = at_arc ∙ some_step_at x a c (omega arith); within = h }
+      found_some_step l = let low = c_low in record { is = at_arc ∙ some_step_at x a c (omega arith); within = h }
 
-      pub found-leaves
+      pub found_leaves
           : (k - x.nodes * w) % (q * 2 + 1) < q * 2 → (k - x.nodes * w) % (q * 2 + 1) % 2 ≡ 0
           → Found x k (Leaves ((k - x.nodes * w) / (q * 2 + 1)) ((k - x.nodes * w) % (q * 2 + 1) / 2 + 1))
       unfolding a c
-      found-leaves l e =
+      found_leaves l e =
           record { is = at_arc ∙ leaves_at x a c (omega arith) e; within = (h, omega arith, omega arith) }
 
-      pub found-enters
+      pub found_enters
           : (k - x.nodes * w) % (q * 2 + 1) < q * 2 → ((k - x.nodes * w) % (q * 2 + 1) % 2 ≢ 0)
           → Found x k (Enters ((k - x.nodes * w) / (q * 2 + 1)) ((k - x.nodes * w) % (q * 2 + 1) / 2 + 1))
       unfolding a c
-      found-enters l e =
-          record { is = at_arc ∙ enters-at x a c (omega arith) (omega arith); within = (h, omega arith, omega arith) }
+      found_enters l e =
+          record { is = at_arc ∙ enters_at x a c (omega arith) (omega arith); within = (h, omega arith, omega arith) }
 
 -- an arc that is read from memory
 pub arc_read : (x : Remaining) (a : ℕ) → a < arc_count (input x) → arc_in x.arcs a ≡ arc_at (input x) a

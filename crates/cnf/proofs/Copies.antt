@@ -12,11 +12,11 @@ length_or_zero (x ∷ xs) zero = refl
 length_or_zero (x ∷ xs) (suc k) = length_or_zero xs k
 
 -- one literal more
-pub Copied-more
+pub copied_more
     : {X : Type 0} (c out now : List X) (from i : ℕ) (x : X) → i < length c - from → i < length out
     → now ≡ take i (drop from c) ++ drop i out → x ≡ get_or c (from + i) x
     → set now i x ≡ take (i + 1) (drop from c) ++ drop (i + 1) out
-Copied-more c out now from i x l k e is =
+copied_more c out now from i x l k e is =
     let d = length-drop from c in
     let t = length-take-le i (drop from c) (omega arith) in
     let m : get_or (drop from c) i x ≡ x = get_or-drop from c i x ∙ sym is in
@@ -28,10 +28,10 @@ Copied-more c out now from i x l k e is =
 pub value_at : {X : Type 0} (xs : List X) (j : ℕ) (d e : X) → j < length xs → unwrap_or (nth xs j) d ≡ get_or xs j e
 value_at xs j d e h = ap (λ o. unwrap_or o d) (nth_at xs j e h)
 
-pub Copied-all
+pub copied_all
     : {X : Type 0} (c out now : List X) (from i n : ℕ) → i ≡ n → now ≡ take i (drop from c) ++ drop i out
     → now ≡ take n (drop from c) ++ drop n out
-Copied-all c out now from i n e h = rw e at h
+copied_all c out now from i n e h = rw e at h
 
 pub copied_whole : {X : Type 0} (c out : List X) (n : ℕ) → n ≡ length c → take n (take n c ++ drop n out) ≡ c
 copied_whole c out n e =

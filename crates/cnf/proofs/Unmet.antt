@@ -11,10 +11,10 @@ use Rattle.cnf.specs.Writing.{any}
 use Rattle.cnf.proofs.Writes.{none_at}
 
 -- bytes
-pub byte-none
+pub byte_none
     : (values : List ℕ) (z : ℤ) (v : ℕ) → v ≡ variable z → (v ≡ 0) ⊎ ((v ≡ 0 → ⊥) × (length values < v)) → 0 ≡ byte_of values z
-byte-none values z v e (inl h) = rw (eq-eqb (variable z) 0 (sym e ∙ h))
-byte-none values z v e (inr h) =
+byte_none values z v e (inl h) = rw (eq-eqb (variable z) 0 (sym e ∙ h))
+byte_none values z v e (inr h) =
     let p = get_or_past values (variable z - 1) 0 (omega (arith, e, h.1)) in
     rw (ne_eqb (variable z) 0 (λ q. h.0 (e ∙ q))) (sym p)
 
@@ -27,19 +27,19 @@ any_append p [] ys = refl
 any_append p (x ∷ xs) ys = let i = any_append p xs ys in grind (arith, i)
 
 -- of the entries from a place on: the next n of them, or those after
-pub any-chunk
+pub any_chunk
     : {X : Type 0} (p : X → Bool) (c chunk : List X) (from n : ℕ) → chunk ≡ take n (drop from c)
     → any p (drop from c) ≡ (any p chunk || any p (drop (from + n) c))
-any-chunk p c chunk from n e =
+any_chunk p c chunk from n e =
     ap (any p) (sym (take-append-drop n (drop from c))) ∙ any_append p (take n (drop from c)) (drop n (drop from c))
     ∙ ap (λ xs. any p xs || any p (drop n (drop from c))) (sym e)
     ∙ ap (λ xs. any p chunk || any p xs) (drop-drop n from c)
 
 -- what was copied to a buffer, as a part of it
-pub chunk-is
+pub chunk_is
     : {X : Type 0} (c out after : List X) (from n : ℕ) → n ≤ length c - from → after ≡ take n (drop from c) ++ drop n out
     → take (n - 0) after ≡ take n (drop from c)
-chunk-is c out after from n l e =
+chunk_is c out after from n l e =
     let d = length-drop from c in
     let t = length-take-le n (drop from c) (omega arith) in
     let z : n - 0 ≡ n = omega arith in
@@ -54,21 +54,21 @@ any_index p (x ∷ xs) d h =
     ]
 
 -- the search
-pub unmet-found
+pub unmet_found
     : (values : List ℕ) (cs : List Clause) (k : ℕ) → k < length cs → ((i : ℕ) → i < k → any (met values) (get_or cs i []) ≡ true)
     → any (met values) (get_or cs k []) ≡ false → Some k ≡ first_unmet values cs
-unmet-found values [] k l b h = absurd (omega arith)
-unmet-found values (c ∷ cs) zero l b h = rw h refl
-unmet-found values (c ∷ cs) (suc k) l b h =
-    let i = unmet-found values cs k (omega arith) (λ j m. b (suc j) (omega arith)) h in
+unmet_found values [] k l b h = absurd (omega arith)
+unmet_found values (c ∷ cs) zero l b h = rw h refl
+unmet_found values (c ∷ cs) (suc k) l b h =
+    let i = unmet_found values cs k (omega arith) (λ j m. b (suc j) (omega arith)) h in
     rw (b 0 (omega arith)) (ap (option_map suc) i)
 
-pub unmet-none
+pub unmet_none
     : (values : List ℕ) (cs : List Clause) → ((i : ℕ) → i < length cs → any (met values) (get_or cs i []) ≡ true)
     → None ≡ first_unmet values cs
-unmet-none values [] b = refl
-unmet-none values (c ∷ cs) b =
-    let i = unmet-none values cs (λ j m. b (suc j) (omega arith)) in rw (b 0 (omega arith)) (ap (option_map suc) i)
+unmet_none values [] b = refl
+unmet_none values (c ∷ cs) b =
+    let i = unmet_none values cs (λ j m. b (suc j) (omega arith)) in rw (b 0 (omega arith)) (ap (option_map suc) i)
 
 -- for a byte of 1 or 2, a literal is met exactly when it is true
 module _ (values : List ℕ) where
@@ -101,12 +101,12 @@ module _ (values : List ℕ) where
         both_ways _ (none_at (met values) c m.place (pos 0) m.within h)
         (holds_met (get_or c m.place (pos 0)) (told m.place m.within) m.holds)
 
-  pub names-found
+  pub names_found
       : (cs : List Clause) (k : ℕ) → k < length cs → ((i : ℕ) → i < k → any (met values) (get_or cs i []) ≡ true)
       → any (met values) (get_or cs k []) ≡ false → UnmetRight values cs (Some k)
-  names-found cs k l b h full =
+  names_found cs k l b h full =
       (l, unmet_meets (get_or cs k []) (λ j m. full k j l m) h, λ i m. met_meets (get_or cs i []) (λ j q. full i j (omega arith) q) (b i m))
 
-  pub names-none
+  pub names_none
       : (cs : List Clause) → ((i : ℕ) → i < length cs → any (met values) (get_or cs i []) ≡ true) → UnmetRight values cs None
-  names-none cs b full i l = met_meets (get_or cs i []) (λ j q. full i j l q) (b i l)
+  names_none cs b full i l = met_meets (get_or cs i []) (λ j q. full i j l q) (b i l)

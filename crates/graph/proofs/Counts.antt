@@ -150,11 +150,11 @@ count_le (suc k) p q h =
     ]
 
 -- what passes p passes q, and one number passes only q
-pub count-lt
+pub count_lt
     : (n w : ℕ) (p q : ℕ → Bool) → w < n → p w ≡ false → q w ≡ true → ((k : ℕ) → k < n → p k ≡ true → q k ≡ true)
     → count n p < count n q
-count-lt zero w p q l a b h = absurd (omega arith)
-count-lt (suc k) w p q l a b h =
+count_lt zero w p q l a b h = absurd (omega arith)
+count_lt (suc k) w p q l a b h =
     let sp = count_suc k p in
     let sq = count_suc k q in
     elim (cases_eq w k) [
@@ -163,7 +163,7 @@ count-lt (suc k) w p q l a b h =
           let y : q k ≡ true = ap q (sym e) ∙ b in
           let i = count_le k p q (λ j z. h j (omega arith)) in grind (arith, sp, sq, x, y, i)
       | inr ne ↦
-          let i = count-lt k w p q (omega arith) a b (λ j z. h j (omega arith)) in
+          let i = count_lt k w p q (omega arith) a b (λ j z. h j (omega arith)) in
           elim (cases_Bool (p k)) [
             | inl t ↦ let x = h k (omega arith) t in grind (arith, sp, sq, t, x, i)
             | inr f ↦ grind (arith, sp, sq, f, i)

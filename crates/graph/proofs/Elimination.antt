@@ -15,11 +15,11 @@ module _ {R S : ℕ → ℕ → Type 0} (v : ℕ) (no_loop : R v v → ⊥)
   skips_at x z y p d e = skips x y (subst (λ t. R x t) p d) (subst (λ t. R t y) p e)
 
   -- a walk of R to a node other than v gives one of S: from its start, or, where that is v, from any node with an edge to it
-  walk-without
+  walk_without
       : {x y : ℕ} → (y ≡ v → ⊥) → Walk R x y → ((x ≡ v → ⊥) → Walk S x y) × ((u : ℕ) → R u x → x ≡ v → Walk S u y)
-  walk-without q (one {x = x} {y = y} e) = (λ p. one (keeps x y p q e), λ u d p. one (skips_at u x y p d e))
-  walk-without q (more {x = x} {y = t} e k) =
-      let i = walk-without q k in (
+  walk_without q (one {x = x} {y = y} e) = (λ p. one (keeps x y p q e), λ u d p. one (skips_at u x y p d e))
+  walk_without q (more {x = x} {y = t} e k) =
+      let i = walk_without q k in (
         λ p. elim (cases_eq t v) [ inl a ↦ i.1 x e a | inr a ↦ more (keeps x t p a e) (i.0 a) ],
         λ u d p. more (skips_at u x t p d e) (i.0 (next_differs p e)),
       )
@@ -33,8 +33,8 @@ module _ {R S : ℕ → ℕ → Type 0} (v : ℕ) (no_loop : R v v → ⊥)
   pub eliminate : Ring R → Ring S
   eliminate (x, k) =
       elim (cases_eq x v) [
-        | inl a ↦ let h = ring_elsewhere a a k in (h.0, (walk-without h.1 h.2).0 h.1)
-        | inr a ↦ (x, (walk-without a k).0 a)
+        | inl a ↦ let h = ring_elsewhere a a k in (h.0, (walk_without h.1 h.2).0 h.1)
+        | inr a ↦ (x, (walk_without a k).0 a)
       ]
 
 module _ (r : Edges) (v : ℕ) where

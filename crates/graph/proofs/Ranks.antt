@@ -5,7 +5,7 @@ use Rattle.std.proofs.lemmas.Bool.{and_from, and_parts, both_ways, cases_Bool, c
 use Rattle.graph.specs.Counts.{count, least}
 use Rattle.graph.specs.Ranks.{RankLaw, Ranked}
 use Rattle.graph.specs.Walks.{Edge, Edges, Inside, Ring, Ringless, Walk, more, one}
-use Rattle.graph.proofs.Counts.{count_all, count-lt, least_none, least_passes}
+use Rattle.graph.proofs.Counts.{count_all, count_lt, least_none, least_passes}
 use Rattle.graph.proofs.Walks.{join, no_ring}
 
 -- whether some walk of r leads from x to y with every inner node below m
@@ -15,11 +15,11 @@ reach r (suc m) x y = reach r m x y || (reach r m x m && reach r m m y)
 
 module _ (r : Edges) where
   -- a walk whose inner nodes are below m + 1 does not pass m, or it splits there
-  reach-splits
+  reach_splits
       : (m x y : ℕ) → reach r (suc m) x y ≡ true
       → (reach r m x y ≡ true) ⊎ ((reach r m x m ≡ true) × (reach r m m y ≡ true))
   unfolding reach
-  reach-splits m x y h =
+  reach_splits m x y h =
       elim (or_cases (reach r m x y) (reach r m x m && reach r m m y) h)
       [ inl p ↦ inl p | inr p ↦ inr (and_parts (reach r m x m) (reach r m m y) p) ]
 
@@ -45,17 +45,17 @@ module _ (r : Edges) where
         | inl e ↦
             let a = rw e at p in
             let b = rw e at q in
-            let s : reach r m x m ≡ true = elim (reach-splits m x m a) [ inl s ↦ s | inr s ↦ s.0 ] in
-            let t : reach r m m y ≡ true = elim (reach-splits m m y b) [ inl t ↦ t | inr t ↦ t.1 ] in
+            let s : reach r m x m ≡ true = elim (reach_splits m x m a) [ inl s ↦ s | inr s ↦ s.0 ] in
+            let t : reach r m m y ≡ true = elim (reach_splits m m y b) [ inl t ↦ t | inr t ↦ t.1 ] in
             reach_by m x y s t
         | inr ne ↦
             let b : k < m = omega arith in
-            elim (reach-splits m x k p) [
-              | inl s ↦ elim (reach-splits m k y q) [
+            elim (reach_splits m x k p) [
+              | inl s ↦ elim (reach_splits m k y q) [
                 | inl t ↦ reach_grows m x y (reach_through m x k y b s t)
                 | inr t ↦ reach_by m x y (reach_through m x k m b s t.0) t.1
               ]
-              | inr s ↦ elim (reach-splits m k y q) [
+              | inr s ↦ elim (reach_splits m k y q) [
                 | inl t ↦ reach_by m x y s.0 (reach_through m m k y b s.1 t)
                 | inr t ↦ reach_by m x y s.0 t.1
               ]
@@ -66,7 +66,7 @@ module _ (r : Edges) where
   unfolding reach
   reach_walk zero x y h = one h
   reach_walk (suc m) x y h =
-      elim (reach-splits m x y h)
+      elim (reach_splits m x y h)
       [ inl p ↦ reach_walk m x y p | inr p ↦ join (reach_walk m x m p.0) (reach_walk m m y p.1) ]
 
 pub walk_reach : {n : ℕ} {r : Edges} {x y : ℕ} → Inside n r → Walk (Edge r) x y → reach r n x y ≡ true
@@ -98,11 +98,11 @@ module _ (n : ℕ) (r : Edges) (inside : Inside n r) (ringless : Ringless (Edge 
     rank = λ u. count n (λ k. reach r n k u);
     low = λ u l.
         let a = count_all n (λ _. true) (λ _ _. refl) in
-        let b = count-lt n u (λ k. reach r n k u) (λ _. true) l (no_return u) refl (λ _ _ _. refl) in omega arith;
+        let b = count_lt n u (λ k. reach r n k u) (λ _. true) l (no_return u) refl (λ _ _ _. refl) in omega arith;
     rises = λ u w e.
         let l = (inside u w e).0 in
         let h = reach_edge r n u w e in
-        count-lt n u (λ k. reach r n k u) (λ k. reach r n k w) l (no_return u) h (λ k _ t. reach_through r n k u w l t h);
+        count_lt n u (λ k. reach r n k u) (λ k. reach r n k w) l (no_return u) h (λ k _ t. reach_through r n k u w l t h);
   }
 
 pub rank_law : RankLaw

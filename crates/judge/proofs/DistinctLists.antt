@@ -46,9 +46,9 @@ distinct_cons w ns d f zero (suc j) l h e = not_absent ns w j f (omega arith) (s
 distinct_cons w ns d f (suc i) (suc j) l h e = d i j (omega arith) (omega arith) e
 
 -- equal numbers stand at one place
-pub distinct-same
+pub distinct_same
     : (ns : List ℕ) (i j : ℕ) → Distinct ns → i < length ns → j < length ns → get_or ns i 0 ≡ get_or ns j 0 → i ≡ j
-distinct-same ns i j d a b e =
+distinct_same ns i j d a b e =
     elim (cases_order i j) [
       | inl s ↦ s
       | inr s ↦ elim s [ inl l ↦ absurd (d i j l b e) | inr l ↦ absurd (d j i l a (sym e)) ]

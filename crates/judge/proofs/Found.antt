@@ -24,10 +24,10 @@ pub record NamesRing (pipe : Table) (values : List ℕ) (n : ℕ) (marks : List 
   pub pipes : (b c : Bounded Pipe) → Replaced (ring_pipes pipe (ring_among (opens pipe values) n (unmarked marks))) b c
       → Replaced (found_pipes pipe (opens pipe values) n) b c
 
-pub found-ring
+pub found_ring
     : (pipe : Table) (values : List ℕ) (n m k : ℕ) (before marks out : List ℕ) → m ≡ n
     → Placed (opens pipe values) m before marks out k → k < m → NamesRing pipe values n marks
-found-ring pipe values n m k before marks out e p l =
+found_ring pipe values n m k before marks out e p l =
     let stuck : is_stuck (opens pipe values) n ≡ true =
     ap (is_stuck (opens pipe values)) (sym e) ∙ lt-ltb _ _ (omega (arith, p.size, l)) in
     let is : ring_among (opens pipe values) n (unmarked marks) ≡ ring (opens pipe values) n =

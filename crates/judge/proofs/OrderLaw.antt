@@ -8,7 +8,7 @@ use Rattle.graph.specs.Orders.{Distinct, IsOrder}
 use Rattle.graph.specs.Walks.{Edges}
 use Rattle.graph.proofs.Counts.{count_none, has_index, least_le, least_none, least_passes}
 use Rattle.judge.specs.Placing.{in_degree, next_node, order, order_from, outside}
-use Rattle.judge.proofs.DistinctLists.{Below, distinct_count, distinct_push, distinct-same, push_places}
+use Rattle.judge.proofs.DistinctLists.{Below, distinct_count, distinct_push, distinct_same, push_places}
 
 module _ (n : ℕ) (r : Edges) where
   abbrev next : List ℕ → ℕ
@@ -54,15 +54,15 @@ module _ (n : ℕ) (r : Edges) where
         | inr g ↦ rw (le-ltb _ n g) p
       ]
 
-  none-next-from
+  none_next_from
       : (k : ℕ) (ns : List ℕ) → n ≤ k + length ns → length (order_from r n k ns) < n → next (order_from r n k ns) ≡ n
   unfolding order_from
-  none-next-from zero ns h l = absurd (omega arith)
-  none-next-from (suc k) ns h l =
+  none_next_from zero ns h l = absurd (omega arith)
+  none_next_from (suc k) ns h l =
       elim (cases_lt (next ns) n) [
         | inl s ↦
             let m = length_push ns (next ns) in
-            let t = lt-ltb _ n s in rw t (none-next-from k (ns ++ next ns ∷ []) (omega arith) (rw t at l))
+            let t = lt-ltb _ n s in rw t (none_next_from k (ns ++ next ns ∷ []) (omega arith) (rw t at l))
         | inr g ↦
             let e = least_le n (λ w. outside ns w && eqb (in_degree r n (outside ns) w) 0) in rw (le-ltb _ n g) (omega arith)
       ]
@@ -85,7 +85,7 @@ module _ (n : ℕ) (r : Edges) where
   order_count = distinct_count n (order r n) order_below order_distinct
 
   pub order_none_next : length (order r n) < n → next_node r n (outside (order r n)) ≡ n
-  order_none_next l = none-next-from n [] (omega arith) l
+  order_none_next l = none_next_from n [] (omega arith) l
 
   pub order_right : n ≤ length (order r n) → IsOrder n r (order r n)
   order_right h =
@@ -99,5 +99,5 @@ module _ (n : ℕ) (r : Edges) where
             has_index (order r n) u (not-false _ (least_none n u (outside (order r n)) (omega (arith, z))));
         onward = λ i j a b e.
             let s = order_placed.sources j _ b (order_below i a) e in
-            let q = distinct-same (order r n) s.0 i order_distinct (omega (arith, s.1)) a s.2 in omega (arith, s.1);
+            let q = distinct_same (order r n) s.0 i order_distinct (omega (arith, s.1)) a s.2 in omega (arith, s.1);
       }

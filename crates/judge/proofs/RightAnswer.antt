@@ -28,9 +28,9 @@ use Rattle.judge.proofs.RingLaw.{ring_right}
 use Rattle.judge.proofs.Unknown.{told, untold}
 
 -- a pair before the pair of number i has a smaller number
-earlier-pair
+earlier_pair
     : (n i u w : ℕ) → w < n → (u < i / n) ⊎ ((u ≡ i / n) × (w < i % n)) → u * n + w < i
-earlier-pair n i u w h b =
+earlier_pair n i u w h b =
     let d = div-add-mod' i n in
     elim b [
       | inl l ↦ let m = mul-le (u + 1) n (i / n) n (omega arith) (omega arith) in let a = add-mul u 1 n in omega arith
@@ -77,7 +77,7 @@ module _ (n : ℕ) (pipe : Table) (values : List ℕ) (joins : Joins n pipe) whe
         to_below = column;
         drawn = (sym t.1, ltb-true 0 v q.0);
         unknown = grind (arith, q.1);
-        first = λ u w b h. known_before u w h (earlier-pair n _ u w (joins u w h).1 b);
+        first = λ u w b h. known_before u w h (earlier_pair n _ u w (joins u w h).1 b);
       }
 
   -- the pipes listed for a ring are those between its nodes
@@ -138,26 +138,26 @@ module _ (n : ℕ) (pipe : Table) (values : List ℕ) (joins : Joins n pipe) whe
             })
       ]
 
-answered-ok
+answered_ok
     : (o : Option ℕ) (v f : Verdict) → ◌≡◌ {A = Result Verdict VerdictRefusal} (Ok v) (answered (option_map UnknownValve o) f) → (o ≡ None) × (v ≡ f)
-answered-ok None v f e = (refl, cc)
-answered-ok (Some x) v f e = absurd (grind (arith, e))
+answered_ok None v f e = (refl, cc)
+answered_ok (Some x) v f e = absurd (grind (arith, e))
 
-answered-err
+answered_err
     : (o : Option ℕ) (x : VerdictRefusal) (f : Verdict) → Err x ≡ answered (option_map UnknownValve o) f
     → (v : ℕ) × (o ≡ Some v) × (x ≡ UnknownValve v)
-answered-err None x f e = absurd (grind (arith, e))
-answered-err (Some v) x f e = (v, refl, cc)
+answered_err None x f e = absurd (grind (arith, e))
+answered_err (Some v) x f e = (v, refl, cc)
 
 -- an answer on marked nodes is right, with the lists that it leaves
-pub answer-right
+pub answer_right
     : (s : View) (values : List ℕ) → Joins s.nodes s.pipe → (r : Result Verdict VerdictRefusal) (ns : List ℕ) (ps : List Pipe)
     → r ≡ answered (option_map UnknownValve (first_unknown s.nodes s.pipe values)) (found (opens s.pipe values) s.nodes)
     → (is_ok r ≡ true → ns ≡ found_nodes (opens s.pipe values) s.nodes)
     → (is_ok r ≡ true → ps ≡ found_pipes s.pipe (opens s.pipe values) s.nodes) → RightAnswer s values r ns ps
-answer-right s values j (Ok v) ns ps e a b =
-    let o = answered-ok _ _ _ e in
+answer_right s values j (Ok v) ns ps e a b =
+    let o = answered_ok _ _ _ e in
     let x = a refl in
     let y = b refl in rw (x, y, o.1) (found_right s.nodes s.pipe values j o.0)
-answer-right s values j (Err x) ns ps e a b =
-    let o = answered-err _ _ _ e in rw o.2 (unknown_right s.nodes s.pipe values j o.0 o.1)
+answer_right s values j (Err x) ns ps e a b =
+    let o = answered_err _ _ _ e in rw o.2 (unknown_right s.nodes s.pipe values j o.0 o.1)

@@ -12,22 +12,22 @@ use Rattle.judge.specs.Verdict.{after, ring_pipe, ring_pipes}
 entry_or_zero : (x : ℕ) → unwrap_or (entry x) 0 ≡ x
 entry_or_zero x = grind (arith, nat_tests)
 
-pub ring-pipe-is
+pub ring_pipe_is
     : (pipe : Table) (ns : List ℕ) (k from to valve : ℕ) → from ≡ get_or ns k 0 → to ≡ after ns k
     → valve ≡ unwrap_or (entry (pipe from to)) 0 → record { from = from; to = to; valve = valve } ≡ ring_pipe pipe ns k
-ring-pipe-is pipe ns k from to valve f t v = let e = entry_or_zero (pipe from to) in cc
+ring_pipe_is pipe ns k from to valve f t v = let e = entry_or_zero (pipe from to) in cc
 
-pub pipes-more
+pub pipes_more
     : (f : ℕ → Pipe) (out : List Pipe) (k : ℕ) (p : Pipe) → k < length out → p ≡ f k → take k out ≡ map f (range_with_len 0 k)
     → take (k + 1) (set out k p) ≡ map f (range_with_len 0 (k + 1))
-pipes-more f out k p l e h =
+pipes_more f out k p l e h =
     let t = take_more_set out k p l in
     let m = map-range_with_len_more f 0 k k (omega arith) in rw (t, m, h, e) refl
 
-pub pipes-all
+pub pipes_all
     : (pipe : Table) (ns : List ℕ) (out : List Pipe) (k : ℕ) → k ≡ length ns
     → take k out ≡ map (ring_pipe pipe ns) (range_with_len 0 k) → take (length ns) out ≡ ring_pipes pipe ns
-pipes-all pipe ns out k e h = rw e at h
+pipes_all pipe ns out k e h = rw e at h
 
 -- a part from the first place on
 pub front_is : {X : Type 0} (k : ℕ) (xs : List X) → take (k - 0) xs ≡ take k xs

@@ -38,11 +38,11 @@ module _ (top : ℕ) (x y : List ℕ) (same : (k : ℕ) → k < top → get_or x
         ap (λ i. cond (ltb i (n * n)) (Some (pair_valve n pipe i)) None) (unknown_pair_same n)
 
 -- with enough lent, only an unknown valve is refused
-answer-is
+answer_is
     : (s : Sheet) (x : List ℕ) (a b c : ℕ) → Enough (view s) x a b c
     → verdict_answer (view s) x a b c
     ≡ answered (option_map UnknownValve (first_unknown s.nodes (view s).pipe x)) (found (opens (view s).pipe x) s.nodes)
-answer-is s x a b c l =
+answer_is s x a b c l =
     let v = le-leb _ _ l.values in
     let p = and_from _ _ (le-leb _ _ l.nodes) (and_from _ _ (le-leb _ _ l.pipes) (le-leb _ _ l.marks)) in
     rw (v, p) refl
@@ -57,9 +57,9 @@ independence_law s t x y a b c d e f alike l m =
     ∙ ap (λ n. first_unknown n (view s).pipe y) alike.nodes
     ∙ ap (λ (p : Table). first_unknown t.nodes p y) pipe in
     record {
-      answers = answer-is s x a b c l
+      answers = answer_is s x a b c l
           ∙ (λ i. answered (option_map UnknownValve (unknown i)) (found (edges i) (alike.nodes i)))
-          ∙ sym (answer-is t y d e f m);
+          ∙ sym (answer_is t y d e f m);
       nodes = λ i. found_nodes (edges i) (alike.nodes i);
       pipes = λ i. found_pipes (pipe i) (edges i) (alike.nodes i);
     }

@@ -61,10 +61,10 @@ module _ (r : Edges) (n : ℕ) (marks placed degrees : List ℕ) (m : Matches n 
       ]
 
   -- and its edges no longer count
-  pub degrees-more
+  pub degrees_more
       : (after : List ℕ) → w < n → ((v : ℕ) → v < n → get_or after v 0 ≡ get_or degrees v 0 - cond (r w v) 1 0)
       → Degrees r n (placed ++ w ∷ []) after
-  degrees-more after l a v h =
+  degrees_more after l a v h =
       let o = next_outside l in
       let others : (u : ℕ) → (u ≡ w → ⊥) → outside placed u ≡ outside (placed ++ w ∷ []) u =
       λ u ne. let p = has_push placed w u in grind (arith, nat_tests, p, ne) in
@@ -92,11 +92,11 @@ pub record Placing (r : Edges) (n : ℕ) (before marks out degrees : List ℕ) (
   pub degrees_are : Degrees r n (take k out) degrees
   pub past : (u : ℕ) → n ≤ u → get_or marks u 0 ≡ get_or before u 0
 
-pub placing-none
+pub placing_none
     : (r : Edges) (n : ℕ) (marks out degrees : List ℕ) → length out ≡ 64 → length degrees ≡ 64
     → ((u : ℕ) → u < n → get_or marks u 0 ≡ 0) → ((w : ℕ) → w < n → get_or degrees w 0 ≡ count n (λ u. r u w))
     → Placing r n marks marks out degrees 0
-placing-none r n marks out degrees l e z d =
+placing_none r n marks out degrees l e z d =
     record {
       long = l;
       degrees_long = e;
@@ -107,10 +107,10 @@ placing-none r n marks out degrees l e z d =
     }
 
 -- the nodes listed are all that can be placed
-placed-all
+placed_all
     : (r : Edges) (n k : ℕ) (before marks out degrees : List ℕ) → k ≤ n → n ≤ 64 → Placing r n before marks out degrees k
     → order_from r n (n - k) (take k out) ≡ take k out → Placed r n before marks out k
-placed-all r n k before marks out degrees few low p stop =
+placed_all r n k before marks out degrees few low p stop =
     let e : take k out ≡ order r n = sym stop ∙ p.rest in
     record {
       few = few;
@@ -120,14 +120,14 @@ placed-all r n k before marks out degrees few low p stop =
       past = p.past;
     }
 
-pub placed-full
+pub placed_full
     : (r : Edges) (n k : ℕ) (before marks out degrees : List ℕ) → k ≤ n → n ≤ k → n ≤ 64
     → Placing r n before marks out degrees k → Placed r n before marks out n
 unfolding order_from
-placed-full r n k before marks out degrees a b low p =
+placed_full r n k before marks out degrees a b low p =
     let e : k ≡ n = omega arith in
     let z : n - k ≡ 0 = omega arith in
-    subst (Placed r n before marks out) e (placed-all r n k before marks out degrees a low p (rw z refl))
+    subst (Placed r n before marks out) e (placed_all r n k before marks out degrees a low p (rw z refl))
 
 module _ (r : Edges) (n k : ℕ) (before marks out degrees : List ℕ) (p : Placing r n before marks out degrees k)
     (l : k < n) (low : n ≤ 64) (w : ℕ) (is : w ≡ least n (λ w. unmarked marks w && eqb (get_or degrees w 0) 0)) where
@@ -136,14 +136,14 @@ module _ (r : Edges) (n k : ℕ) (before marks out degrees : List ℕ) (p : Plac
 
   pub placed_stop : n ≤ w → Placed r n before marks out k
   placed_stop h =
-      placed-all r n k before marks out degrees (omega arith) low p
+      placed_all r n k before marks out degrees (omega arith) low p
       (rw one_less (order_stop r n marks (take k out) degrees p.matches p.degrees_are w is _ h))
 
-  pub placing-more
+  pub placing_more
       : (after : List ℕ) → w < n → n ≤ length marks → length after ≡ 64
       → ((v : ℕ) → v < n → get_or after v 0 ≡ get_or degrees v 0 - cond (r w v) 1 0)
       → Placing r n before (set marks w 1) (set out k w) after (k + 1)
-  placing-more after h fits e a =
+  placing_more after h fits e a =
       let t = take_more_set out k w (omega (arith, p.long)) in
       record {
         long = length-set out k w ∙ p.long;
@@ -151,6 +151,6 @@ module _ (r : Edges) (n k : ℕ) (before marks out degrees : List ℕ) (p : Plac
         rest = rw t (sym (order_step r n marks (take k out) degrees p.matches p.degrees_are w is _ h)
             ∙ ap (λ m. order_from r n m (take k out)) (sym one_less) ∙ p.rest);
         matches = rw t (matches_more r n marks (take k out) degrees p.matches p.degrees_are w is (omega arith));
-        degrees_are = rw t (degrees-more r n marks (take k out) degrees p.matches p.degrees_are w is after h a);
+        degrees_are = rw t (degrees_more r n marks (take k out) degrees p.matches p.degrees_are w is after h a);
         past = λ u b. let ne : u ≢ w = omega arith in get_or-set_other marks w u 1 0 ne ∙ p.past u b;
       }

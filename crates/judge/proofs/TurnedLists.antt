@@ -7,20 +7,20 @@ use Rattle.std.proofs.lemmas.Bool.Decides.{nat_tests}
 use Rattle.graph.specs.Orders.{Distinct, IsRing}
 use Rattle.graph.specs.Walks.{Edges}
 use Rattle.judge.specs.Walking.{lowest, turned}
-use Rattle.judge.proofs.DistinctLists.{distinct-same}
+use Rattle.judge.proofs.DistinctLists.{distinct_same}
 
 pub lowest_zero : (ns : List ℕ) → lowest ns 0 ≡ 0
 unfolding lowest
 lowest_zero ns = refl
 
-pub lowest-suc
+pub lowest_suc
     : (ns : List ℕ) (k : ℕ) → lowest ns (suc k) ≡ cond (ltb (get_or ns k 0) (get_or ns (lowest ns k) 0)) k (lowest ns k)
 unfolding lowest
-lowest-suc ns k = refl
+lowest_suc ns k = refl
 
 pub lowest_before : (ns : List ℕ) (k : ℕ) → lowest ns k ≤ k - 1
 lowest_before ns zero = let z = lowest_zero ns in omega arith
-lowest_before ns (suc k) = let i = lowest_before ns k in rw (lowest-suc ns k) (grind (arith, nat_tests))
+lowest_before ns (suc k) = let i = lowest_before ns k in rw (lowest_suc ns k) (grind (arith, nat_tests))
 
 lowest_smallest : (ns : List ℕ) (k j : ℕ) → j < k → get_or ns (lowest ns k) 0 ≤ get_or ns j 0
 lowest_smallest ns zero j l = absurd (omega arith)
@@ -30,8 +30,8 @@ lowest_smallest ns (suc k) j l =
       | inr ne ↦ inr (lowest_smallest ns k j (omega arith))
     ] in
     elim (cases_lt (get_or ns k 0) (get_or ns (lowest ns k) 0)) [
-      | inl s ↦ rw (lowest-suc ns k, lt-ltb _ _ s) (omega arith)
-      | inr g ↦ rw (lowest-suc ns k, le-ltb _ _ g) (omega arith)
+      | inl s ↦ rw (lowest_suc ns k, lt-ltb _ _ s) (omega arith)
+      | inr g ↦ rw (lowest_suc ns k, le-ltb _ _ g) (omega arith)
     ]
 
 -- an edge leads from each node of the list to the next, and from the last to the first
@@ -46,10 +46,10 @@ module _ (ns : List ℕ) (h : ℕ) where
 
   module _ (b : h ≤ length ns) where
     -- the place in ns of what stands at place k of the turned list
-    turn-place
+    turn_place
         : (k : ℕ) → k < length ns
         → (p : ℕ) × (p < length ns) × (get_or (drop h ns ++ take h ns) k 0 ≡ get_or ns p 0) × ((h + k ≡ p) ⊎ (h + k ≡ p + length ns))
-    turn-place k l =
+    turn_place k l =
         let d = length-drop h ns in
         elim (cases_lt (h + k) (length ns)) [
           | inl s ↦ (h + k, s, get_or_append_left (drop h ns) (take h ns) 0 k (omega arith) ∙ get_or-drop h ns k 0, inl refl)
@@ -63,16 +63,16 @@ module _ (ns : List ℕ) (h : ℕ) where
     turn_distinct : Distinct ns → Distinct (drop h ns ++ take h ns)
     turn_distinct d i j l k e =
         let m = turn_length in
-        let p = turn-place i (omega arith) in
-        let q = turn-place j (omega arith) in
-        let s = distinct-same ns p.0 q.0 d p.1 q.1 (sym p.2 ∙ e ∙ q.2) in
+        let p = turn_place i (omega arith) in
+        let q = turn_place j (omega arith) in
+        let s = distinct_same ns p.0 q.0 d p.1 q.1 (sym p.2 ∙ e ∙ q.2) in
         omega (arith, p.3, q.3)
 
     turn_linked : (r : Edges) → Linked r ns → Linked r (drop h ns ++ take h ns)
     turn_linked r o i j a c s =
         let m = turn_length in
-        let p = turn-place i (omega arith) in
-        let q = turn-place j (omega arith) in
+        let p = turn_place i (omega arith) in
+        let q = turn_place j (omega arith) in
         let f : (p.0 + 1 ≡ q.0) ⊎ (p.0 + 1 ≡ q.0 + length ns) = elim (cases_eq (p.0 + 1) q.0) [
           | inl e ↦ inl e
           | inr ne ↦ inr (omega (arith, p.1, p.3, q.1, q.3))
@@ -97,8 +97,8 @@ module _ (ns : List ℕ) where
         some = omega arith;
         distinct = turn_distinct ns start start_fits d;
         smallest = λ k l.
-            let p = turn-place ns start start_fits 0 s in
-            let q = turn-place ns start start_fits k (omega arith) in
+            let p = turn_place ns start start_fits 0 s in
+            let q = turn_place ns start start_fits k (omega arith) in
             let b = lowest_before ns (length ns) in
             let e : p.0 ≡ start = omega (arith, p.3) in
             rw (p.2, e, q.2) (lowest_smallest ns (length ns) q.0 q.1);

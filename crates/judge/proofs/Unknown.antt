@@ -17,10 +17,10 @@ untold false x e = refl
 
 module _ (n : ℕ) (pipe : Table) (values : List ℕ) (i : ℕ)
     (none : least i (λ i. is_unknown values (pair_valve n pipe i)) ≡ i) where
-  pub unknown-found
+  pub unknown_found
       : (v : ℕ) → i < n * n → Some v ≡ cond (is_unknown values (pair_valve n pipe i)) (Some (pair_valve n pipe i)) None
       → Some v ≡ first_unknown n pipe values
-  unknown-found v l e =
+  unknown_found v l e =
       let t = told (is_unknown values (pair_valve n pipe i)) (pair_valve n pipe i) v e in
       let f = least_found i (n * n) (λ i. is_unknown values (pair_valve n pipe i)) none t.0 l in
       let b : ltb (first_unknown_pair n pipe values) (n * n) ≡ true = lt-ltb _ _ (omega (arith, f, l)) in

@@ -10,7 +10,7 @@ use Rattle.std.proofs.lemmas.Bool.{cond-false, cond-true, le-ltb, lt-ltb}
 use Rattle.judge.specs.Walked.{Lies}
 use Rattle.judge.specs.Walking.{lowest, ring_among, source, turned, walk_back}
 use Rattle.judge.proofs.RingLaw.{ring_among_few}
-use Rattle.judge.proofs.TurnedLists.{lowest_before, lowest-suc}
+use Rattle.judge.proofs.TurnedLists.{lowest_before, lowest_suc}
 
 module _ (ns : List ℕ) (k low next : ℕ) (is : low ≡ lowest ns k) where
   step : lowest ns (k + 1) ≡ lowest ns (suc k)
@@ -19,12 +19,12 @@ module _ (ns : List ℕ) (k low next : ℕ) (is : low ≡ lowest ns k) where
   pub lowest_here : get_or ns k 0 < get_or ns low 0 → next ≡ k → next ≡ lowest ns (k + 1)
   lowest_here l e =
       let t : ltb (get_or ns k 0) (get_or ns (lowest ns k) 0) ≡ true = lt-ltb _ _ (rw (← is) l) in
-      e ∙ sym (step ∙ lowest-suc ns k ∙ cond-true _ _ _ t)
+      e ∙ sym (step ∙ lowest_suc ns k ∙ cond-true _ _ _ t)
 
   pub lowest_stays : get_or ns low 0 ≤ get_or ns k 0 → next ≡ low → next ≡ lowest ns (k + 1)
   lowest_stays l e =
       let t : ltb (get_or ns k 0) (get_or ns (lowest ns k) 0) ≡ false = le-ltb _ _ (rw (← is) l) in
-      e ∙ is ∙ sym (step ∙ lowest-suc ns k ∙ cond-false _ _ _ t)
+      e ∙ is ∙ sym (step ∙ lowest_suc ns k ∙ cond-false _ _ _ t)
 
 -- one step back along the edges: to a node of the trail, or to a new one
 module _ (r : Edges) (n : ℕ) (unplaced : ℕ → Bool) (k : ℕ) (trail : List ℕ) (u at : ℕ)
@@ -47,10 +47,10 @@ pub record Walking (r : Edges) (n : ℕ) (unplaced : ℕ → Bool) (part path : 
   pub long : length path ≡ 65
   pub rest : walk_back r n unplaced (n - step) (drop (64 - step) path) ≡ part
 
-pub walking-none
+pub walking_none
     : (r : Edges) (n : ℕ) (unplaced : ℕ → Bool) (path : List ℕ) (u : ℕ) → length path ≡ 65 → u ≡ least n unplaced
     → Walking r n unplaced (walk_back r n unplaced n (least n unplaced ∷ [])) (set path 64 u) 0
-walking-none r n unplaced path u l e =
+walking_none r n unplaced path u l e =
     let d : drop 64 (set path 64 u) ≡ u ∷ [] =
     drop-set path 64 u (omega arith) ∙ ap (λ t. u ∷ t) (drop_all 65 path (omega arith)) in
     let k : n - 0 ≡ n = omega arith in
@@ -107,12 +107,12 @@ pub lowest_within : (ns : List ℕ) (low : ℕ) → low ≡ lowest ns (length ns
 lowest_within ns low e = let h = lowest_before ns (length ns) in omega arith
 
 -- the part is turned where it lies
-pub turned-lies
+pub turned_lies
     : (part path after : List ℕ) (from to low : ℕ) → Lies part path from to
     → low ≡ lowest (take (to - from) (drop from path)) (length (take (to - from) (drop from path)))
     → after ≡ drop low (take (to - from) (drop from path)) ++ take low (take (to - from) (drop from path))
     → length after ≡ length (take (to - from) (drop from path)) → Lies (turned part) (put_mid from (to - from) path after) from to
-turned-lies part path after from to low s e a l =
+turned_lies part path after from to low s e a l =
     let d = length-drop from path in
     let m : length after ≡ to - from =
     l ∙ length-take-le (to - from) (drop from path) (omega (arith, s.ordered, s.inside)) in
@@ -141,7 +141,7 @@ module _ (r : Edges) (n : ℕ) (p q : ℕ → Bool) (same : (u : ℕ) → u < n 
       ap turned (walk_same n (least n p ∷ []) ∙ ap (λ u. walk_back r n q n (u ∷ [])) (least_same n p q same))
 
 -- a ring that lies in a path has at most n nodes
-pub ring-lies-few
+pub ring_lies_few
     : (r : Edges) (n : ℕ) (unplaced : ℕ → Bool) (path : List ℕ) (from to : ℕ) → Lies (ring_among r n unplaced) path from to
     → length (take (to - from) (drop from path)) ≤ n
-ring-lies-few r n unplaced path from to s = let f = ring_among_few n r unplaced in rw s.is f
+ring_lies_few r n unplaced path from to s = let f = ring_among_few n r unplaced in rw s.is f

@@ -7,7 +7,7 @@ use Rattle.graph.proofs.Walks.{map_walk}
 use Rattle.graph.specs.Elimination.{Bridges}
 use Rattle.law.specs.Encoding.{Encodes, EncodingLaw, Follows, Fresh, Named, clauses_of, on, without_nodes}
 use Rattle.law.proofs.Labels.{Label, Labels, labels_planned}
-use Rattle.sheet.proofs.Pairs.{pairs_with_all, pairs_with_has, planned-gives, planned_keeps}
+use Rattle.sheet.proofs.Pairs.{pairs_with_all, pairs_with_has, planned_gives, planned_keeps}
 use Rattle.cnf.proofs.Satisfied.{map_sat, sat_append, sat_left, sat_map, sat_right}
 use Rattle.law.proofs.Implied.{AllTrue, Implied, implied_meets, meets_implied, on_from, on_parts}
 use Rattle.sheet.specs.Eliminating.{bridged, eliminated, elimination_clauses, way_through}
@@ -47,15 +47,15 @@ module _ (V : ℕ) (ends : ℕ → ℕ × ℕ) (next : ℕ) (σ : Values) (ρ : 
   value_is {x} l = follows x l.above l.below ∙ ap (λ (p : ℕ × ℕ). ltb (ρ p.0) (ρ p.1)) l.is
 
   -- where the rank rises whenever all premises are true, the planned clauses are met
-  rising-sat
+  rising_sat
       : (ps : Premises) (n : ℕ) (k : Arcs) → 0 < k.next
       → ((u w : ℕ) → 0 < (planned ps n k).arc u w → Label V next ends ((planned ps n k).arc u w) u w)
       → ((u w : ℕ) → are_there (ps u w) ≡ true → AllTrue σ (ps u w) → ρ u < ρ w) → Sat σ (implications ps n k)
-  rising-sat ps n k some named rises =
+  rising_sat ps n k some named rises =
       each_implied_sat σ ps n k (λ u w a b e t.
       let r = rises u w e t in
       let d : u ≡ w → ⊥ = λ z. omega (arith, ap ρ z) in
-      let l = planned-gives ps n k some u w a b e d in
+      let l = planned_gives ps n k some u w a b e d in
       (d, on_from σ (planned ps n k).arc u w l (value_is (named u w l) ∙ lt-ltb (ρ u) (ρ w) r)))
 
 -- a label as the law names it
@@ -97,18 +97,18 @@ module _ (s : View) (f : Fresh s) where
     joins = start_labels.joins;
     named = λ u w l. named_from_label (started s) start_labels.ends u w (start_labels.named u w l);
     fits = λ σ ρ up follows.
-        rising-sat s.valves start_labels.ends (started s).next σ ρ follows valves s.nodes (arcs_of s)
+        rising_sat s.valves start_labels.ends (started s).next σ ρ follows valves s.nodes (arcs_of s)
         (omega (arith, f.next)) start_labels.named
         (λ u w e t.
         let l = ltb-true 0 (s.pipe u w) (and_parts (ltb 0 (s.pipe u w)) true e).0 in
         up u w (on_from σ s.pipe u w l t.0));
-    rings = λ σ h r. (r.0, map_walk (λ u w o. open-true σ h u w o) r.1);
+    rings = λ σ h r. (r.0, map_walk (λ u w o. open_true σ h u w o) r.1);
   }
     where
-      open-true
+      open_true
           : (σ : Values) → Sat σ (start_clauses s) → (u w : ℕ) → on σ s.pipe u w ≡ true
           → on σ (started s).arc u w ≡ true
-      open-true σ h u w o =
+      open_true σ h u w o =
           let p = on_parts σ s.pipe u w o in
           let j = f.pipes u w p.0 in
           let e = and_from (ltb 0 (s.pipe u w)) true (lt-ltb 0 (s.pipe u w) p.0) refl in
@@ -167,7 +167,7 @@ module _ (s : View) (cs : List Clause) (v : ℕ) (h : Encodes s cs) where
 
     bridges_sat : Sat σ (elimination_clauses s v)
     bridges_sat =
-        rising-sat s.valves bridge_labels.ends (bridged s v).next σ ρ follows ways s.nodes (arcs_of s)
+        rising_sat s.valves bridge_labels.ends (bridged s v).next σ ρ follows ways s.nodes (arcs_of s)
         (omega (arith, h.some)) bridge_labels.named
         (λ u w e t.
         let p = both_there u w e in
@@ -217,17 +217,17 @@ module _ (s : View) (cs : List Clause) (v : ℕ) (h : Encodes s cs) where
   }
 
 -- eliminations, one after the other
-all-encode
+all_encode
     : (vs : List ℕ) (s : View) (cs : List Clause) → Encodes s cs → Encodes (without_nodes s vs) (cs ++ clauses_of s vs)
-all-encode [] s cs h = rw (append-nil cs) h
-all-encode (v ∷ vs) s cs h =
+all_encode [] s cs h = rw (append-nil cs) h
+all_encode (v ∷ vs) s cs h =
     subst (λ ds. Encodes (without_nodes (eliminated s v) vs) ds)
     (append_assoc cs (elimination_clauses s v) (clauses_of (eliminated s v) vs))
-    (all-encode vs (eliminated s v) (cs ++ elimination_clauses s v) (eliminated_encodes s cs v h))
+    (all_encode vs (eliminated s v) (cs ++ elimination_clauses s v) (eliminated_encodes s cs v h))
 
 pub encoding_law : EncodingLaw
 encoding_law = record {
   start = start_encodes;
   eliminate = eliminated_encodes;
-  all = λ s vs f. all-encode vs (started s) (start_clauses s) (start_encodes s f);
+  all = λ s vs f. all_encode vs (started s) (start_clauses s) (start_encodes s f);
 }

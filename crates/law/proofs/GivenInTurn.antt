@@ -1,8 +1,8 @@
 -- Arcs that are given to the pairs of a list, one after the other: what was there stays, and the new ones are numbered in turn.
 use Rattle.std.proofs.Common.{◌≡◌, ℕ, zero, suc, ◌+◌, ◌*◌, ◌/◌, ◌<◌, ◌≤◌, Bool, ◌⊎◌, List, [], ◌∷◌, map, length, filter, sym, refl, ap, ◌∙◌, subst, inl, inr, arith}
 use Rattle.law.specs.ClauseLists.{Earlier, GivenInTurn}
-use Rattle.sheet.proofs.Pairs.{given, given_keeps, with-arc-cases, with_arcs_keeps, with_arcs_next}
-use Rattle.sheet.proofs.Tables.{put-cases}
+use Rattle.sheet.proofs.Pairs.{given, given_keeps, with_arc_cases, with_arcs_keeps, with_arcs_next}
+use Rattle.sheet.proofs.Tables.{put_cases}
 use Rattle.sheet.specs.Implications.{Arcs, Premises, has_premises, pair_at, pairs, pairs_with, planned, with_arcs}
 use Rattle.std.proofs.lemmas.Nat.{div-add-mod', le-div}
 use Rattle.std.proofs.ByRecursion.{all_kept_by, All-map, All-weaker}
@@ -10,15 +10,15 @@ use Rattle.std.proofs.lemmas.Bool.{cases_eq, cond_both}
 use Rattle.std.specs.List.{range_with_len, AllByRecursion as All}
 
 -- a pair with a new arc is one of the list
-only-listed
+only_listed
     : (P : ℕ × ℕ → Type 0) (k : Arcs) (ps : List (ℕ × ℕ)) (a : ℕ × ℕ) → All P ps → k.arc a.0 a.1 ≡ 0
     → 0 < (with_arcs k ps).arc a.0 a.1 → P a
-only-listed P k [] a _ z = λ h. absurd (omega arith)
-only-listed P k (p ∷ ps) a all z =
-    with-arc-cases k p (λ l. 0 < (with_arcs l ps).arc a.0 a.1 → P a) (λ _ h. only-listed P k ps a all.1 z h)
-    (λ _ _ h. elim (put-cases k.arc p.0 p.1 k.next a.0 a.1) [
+only_listed P k [] a _ z = λ h. absurd (omega arith)
+only_listed P k (p ∷ ps) a all z =
+    with_arc_cases k p (λ l. 0 < (with_arcs l ps).arc a.0 a.1 → P a) (λ _ h. only_listed P k ps a all.1 z h)
+    (λ _ _ h. elim (put_cases k.arc p.0 p.1 k.next a.0 a.1) [
       | inl e ↦ let same : p ≡ a = λ i. (sym e.0 i, sym e.1 i) in subst P same all.0
-      | inr e ↦ only-listed P (given k p) ps a all.1 (e.1 ∙ z) h
+      | inr e ↦ only_listed P (given k p) ps a all.1 (e.1 ∙ z) h
     ])
 
 not_same : (p q : ℕ × ℕ) → Earlier p q → p.0 ≡ q.0 → p.1 ≡ q.1 → ⊥
@@ -35,19 +35,19 @@ not_back p q r e f a b =
 module _ (k : Arcs) (p : ℕ × ℕ) (ps : List (ℕ × ℕ)) (some : 0 < k.next) where
   gets_next : (with_arcs (given k p) ps).arc p.0 p.1 ≡ k.next
   gets_next =
-      elim (put-cases k.arc p.0 p.1 k.next p.0 p.1) [
+      elim (put_cases k.arc p.0 p.1 k.next p.0 p.1) [
         | inl e ↦ with_arcs_keeps ps (given k p) p.0 p.1 (rw e.2 some) ∙ e.2
         | inr e ↦ absurd (e.0 refl refl)
       ]
 
-  in-turn-more
+  in_turn_more
       : k.arc p.0 p.1 ≡ 0 → All (Earlier p) ps → GivenInTurn (given k p) (with_arcs (given k p) ps)
       → GivenInTurn k (with_arcs (given k p) ps)
-  in-turn-more z later g =
+  in_turn_more z later g =
       record {
         keeps = λ u w h. let e = given_keeps k p u w z h in g.keeps u w (omega arith) ∙ e;
         new = λ u w e h.
-            elim (put-cases k.arc p.0 p.1 k.next u w) [
+            elim (put_cases k.arc p.0 p.1 k.next u w) [
               | inl q ↦
                   let n : (with_arcs (given k p) ps).arc u w ≡ k.next = rw (q.0, q.1) gets_next in
                   (omega arith, omega (arith, with_arcs_next ps (given k p)))
@@ -59,7 +59,7 @@ module _ (k : Arcs) (p : ℕ × ℕ) (ps : List (ℕ × ℕ)) (some : 0 < k.next
               | inr d ↦
                   let r = g.no_gap x (omega arith) b in (
                     r.0,
-                    elim (put-cases k.arc p.0 p.1 k.next r.0.0 r.0.1) [
+                    elim (put_cases k.arc p.0 p.1 k.next r.0.0 r.0.1) [
                       | inl q ↦ absurd (omega (arith, q.2, r.1))
                       | inr q ↦ sym q.1 ∙ r.1
                     ],
@@ -67,18 +67,18 @@ module _ (k : Arcs) (p : ℕ × ℕ) (ps : List (ℕ × ℕ)) (some : 0 < k.next
                   )
             ];
         rise = λ a b za zb pa pb e.
-            elim (put-cases k.arc p.0 p.1 k.next a.0 a.1) [
+            elim (put_cases k.arc p.0 p.1 k.next a.0 a.1) [
               | inl q ↦
-                  elim (put-cases k.arc p.0 p.1 k.next b.0 b.1) [
+                  elim (put_cases k.arc p.0 p.1 k.next b.0 b.1) [
                     | inl r ↦ absurd (not_same a b e (q.0 ∙ sym r.0) (q.1 ∙ sym r.1))
                     | inr r ↦
                         let n : (with_arcs (given k p) ps).arc a.0 a.1 ≡ k.next = rw (q.0, q.1) gets_next in
                         omega (arith, (g.new b.0 b.1 (r.1 ∙ zb) pb).0)
                   ]
               | inr q ↦
-                  elim (put-cases k.arc p.0 p.1 k.next b.0 b.1) [
+                  elim (put_cases k.arc p.0 p.1 k.next b.0 b.1) [
                     | inl r ↦
-                        absurd (not_back p a b (only-listed (Earlier p) (given k p) ps a later (q.1 ∙ za) pa) e r.0 r.1)
+                        absurd (not_back p a b (only_listed (Earlier p) (given k p) ps a later (q.1 ∙ za) pa) e r.0 r.1)
                     | inr r ↦ g.rise a b (q.1 ∙ za) (r.1 ∙ zb) pa pb e
                   ]
             ];
@@ -98,8 +98,8 @@ given_in_turn k [] some up =
       rise = λ p q e f h i d. absurd (omega arith);
     }
 given_in_turn k (p ∷ ps) some up =
-    with-arc-cases k p (λ l. GivenInTurn k (with_arcs l ps)) (λ _. given_in_turn k ps some up.1)
-    (λ _ z. in-turn-more k p ps some z up.0 (given_in_turn (given k p) ps (omega arith) up.1))
+    with_arc_cases k p (λ l. GivenInTurn k (with_arcs l ps)) (λ _. given_in_turn k ps some up.1)
+    (λ _ z. in_turn_more k p ps some z up.0 (given_in_turn (given k p) ps (omega arith) up.1))
 
 -- a pair of two nodes with no arc
 abbrev pub Free : Arcs → ℕ × ℕ → Type 0
@@ -110,7 +110,7 @@ later_free k p [] later free = tt
 later_free k p (q ∷ qs) later free = (
   (
     free.0.0,
-    elim (put-cases k.arc p.0 p.1 k.next q.0 q.1) [
+    elim (put_cases k.arc p.0 p.1 k.next q.0 q.1) [
       | inl e ↦ absurd (not_same p q later.0 (sym e.0) (sym e.1))
       | inr e ↦ e.1 ∙ free.0.1
     ],
@@ -126,14 +126,14 @@ pub record Numbered (k l : Arcs) (ps : List (ℕ × ℕ)) : Type 0 where
   pub next : l.next ≡ k.next + length ps
   pub arcs : map (arc_at l) ps ≡ range_with_len k.next (length ps)
 
-free-numbered
+free_numbered
     : (k : Arcs) (ps : List (ℕ × ℕ)) → 0 < k.next → Ascending ps → All (Free k) ps → Numbered k (with_arcs k ps) ps
-free-numbered k [] some up free = record { next = omega arith; arcs = refl }
-free-numbered k (p ∷ ps) some up free =
-    with-arc-cases k p (λ l. Numbered k (with_arcs l ps) (p ∷ ps))
+free_numbered k [] some up free = record { next = omega arith; arcs = refl }
+free_numbered k (p ∷ ps) some up free =
+    with_arc_cases k p (λ l. Numbered k (with_arcs l ps) (p ∷ ps))
     (λ e. absurd (elim e [ inl s ↦ free.0.0 s | inr h ↦ omega (arith, free.0.1) ]))
     (λ _ _.
-    let more = free-numbered (given k p) ps (omega arith) up.1 (later_free k p ps up.0 free.1) in
+    let more = free_numbered (given k p) ps (omega arith) up.1 (later_free k p ps up.0 free.1) in
     record {
       next = omega (arith, more.next);
       arcs = λ i. gets_next k p ps some i ∷ more.arcs i;
@@ -180,8 +180,8 @@ pub planned_in_turn : (ps : Premises) (n : ℕ) (k : Arcs) → 0 < k.next → Gi
 unfolding planned
 planned_in_turn ps n k some = given_in_turn k (pairs_with ps n) some (pairs_ascend ps n)
 
-pub planned-numbered
+pub planned_numbered
     : (ps : Premises) (n : ℕ) (k : Arcs) → 0 < k.next → All (Free k) (pairs_with ps n)
     → Numbered k (planned ps n k) (pairs_with ps n)
 unfolding planned
-planned-numbered ps n k some free = free-numbered k (pairs_with ps n) some (pairs_ascend ps n) free
+planned_numbered ps n k some free = free_numbered k (pairs_with ps n) some (pairs_ascend ps n) free

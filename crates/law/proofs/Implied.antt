@@ -21,13 +21,13 @@ module _ (σ : Values) where
   abbrev pub AllTrue : List ℕ → Type 0
   AllTrue vs = All (λ v. σ v ≡ true) vs
 
-  unless-true
+  unless_true
       : (vs : List ℕ) (c : Clause) → are_there vs ≡ true → (AllTrue vs → Meets σ c) → Meets σ (map minus vs ++ c)
-  unless-true [] c e h = h tt
-  unless-true (v ∷ vs) c e h =
+  unless_true [] c e h = h tt
+  unless_true (v ∷ vs) c e h =
       let p = and_parts (ltb 0 v) (are_there vs) e in
       elim (cases_Bool (σ v)) [
-        | inl a ↦ meets_later σ (minus v) (map minus vs ++ c) (unless-true vs c p.1 (λ k. h (a, k)))
+        | inl a ↦ meets_later σ (minus v) (map minus vs ++ c) (unless_true vs c p.1 (λ k. h (a, k)))
         | inr a ↦ meets_first σ (minus v) (map minus vs ++ c) (holds_minus σ v (ltb-true 0 v p.0) a)
       ]
 
@@ -65,7 +65,7 @@ module _ (σ : Values) where
 
   pub implied_meets : (vs : List ℕ) (t : Table) (p : ℕ × ℕ) → are_there vs ≡ true → Implied vs t p → Meets σ (implication vs t p)
   implied_meets vs t p e h =
-      unless-true vs (rest t p.0 p.1) e (λ k. let r = h k in rest_from t p.0 p.1 r.0 r.1)
+      unless_true vs (rest t p.0 p.1) e (λ k. let r = h k in rest_from t p.0 p.1 r.0 r.1)
 
   pub meets_implied : (vs : List ℕ) (t : Table) (p : ℕ × ℕ) → are_there vs ≡ true → Meets σ (implication vs t p) → Implied vs t p
   meets_implied vs t p e m k = rest_parts t p.0 p.1 (since_true vs (rest t p.0 p.1) e k m)

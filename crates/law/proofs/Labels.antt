@@ -1,11 +1,11 @@
 -- To which pair of nodes each variable was given: planned arcs only add to it.
 use Rattle.std.proofs.Common.{◌≡◌, ℕ, ◌+◌, ◌<◌, ◌≤◌, cond, eqb, List, [], ◌∷◌, sym, refl, ◌∙◌, subst, ap₂, inl, inr, arith}
-use Rattle.sheet.proofs.Tables.{joins_put, put-cases}
+use Rattle.sheet.proofs.Tables.{joins_put, put_cases}
 use Rattle.sheet.specs.Implications.{Arcs, Premises, pairs_with, planned, with_arc, with_arcs}
 use Rattle.sheet.specs.Tables.{Joins}
 use Rattle.std.proofs.lemmas.Bool.{eq-eqb, ne_eqb}
 use Rattle.std.specs.List.{AllByRecursion as All}
-use Rattle.sheet.proofs.Pairs.{given, pairs_with_all, with-arc-cases}
+use Rattle.sheet.proofs.Pairs.{given, pairs_with_all, with_arc_cases}
 
 -- x is a variable above V that was given, and it was given to the pair (u, w)
 pub record Label (V next : ℕ) (ends : ℕ → ℕ × ℕ) (x u w : ℕ) : Type 0 where
@@ -30,7 +30,7 @@ module _ (n V low : ℕ) (old : ℕ → ℕ × ℕ) where
       grows = omega (arith, h.grows);
       joins = joins_put k.arc p.0 p.1 k.next n h.joins a b d;
       named = λ u w l.
-          elim (put-cases k.arc p.0 p.1 k.next u w) [
+          elim (put_cases k.arc p.0 p.1 k.next u w) [
             | inl c ↦ subst (λ x. Label V (k.next + 1) ends x u w) (sym c.2) (newest u w c.0 c.1)
             | inr c ↦
                 subst (λ x. Label V (k.next + 1) ends x u w) (sym c.1) (kept u w (h.named u w (omega (arith, c.1))))
@@ -57,14 +57,14 @@ module _ (n V low : ℕ) (old : ℕ → ℕ × ℕ) where
           is = older (k.arc u w) c.below ∙ c.is;
         }
 
-    labels-with-arcs
+    labels_with_arcs
         : (qs : List (ℕ × ℕ)) (k : Arcs) → All (λ q. (q.0 < n) × (q.1 < n)) qs → Labels k → Labels (with_arcs k qs)
-    labels-with-arcs [] k a h = h
-    labels-with-arcs (q ∷ qs) k a h =
-        labels-with-arcs qs (with_arc k q) a.1
-        (with-arc-cases k q Labels (λ _. h) (λ d _. labels_given k q h a.0.0 a.0.1 d))
+    labels_with_arcs [] k a h = h
+    labels_with_arcs (q ∷ qs) k a h =
+        labels_with_arcs qs (with_arc k q) a.1
+        (with_arc_cases k q Labels (λ _. h) (λ d _. labels_given k q h a.0.0 a.0.1 d))
 
     pub labels_planned : (ps : Premises) (k : Arcs) → Labels k → Labels (planned ps n k)
     unfolding planned
     labels_planned ps k h =
-        labels-with-arcs (pairs_with ps n) k (pairs_with_all ps n (λ q. (q.0 < n) × (q.1 < n)) (λ u w a b _. (a, b))) h
+        labels_with_arcs (pairs_with ps n) k (pairs_with_all ps n (λ q. (q.0 < n) × (q.1 < n)) (λ u w a b _. (a, b))) h

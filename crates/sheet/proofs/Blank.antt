@@ -33,10 +33,10 @@ Keeps f n v next pipe arc out =
     × (((u : ℕ) → T (is_fresh f) → (T (get_or out u false) → ⊥))
     × ((next + 4096 * count 64 (λ u. not (get_or out u false)) ≤ 326241) × Unit {0})))))))))))))
 
-blank-keeps
+blank_keeps
     : (f : Phase) (n v : ℕ) → (1 ≤ n) × (n ≤ 64) → (1 ≤ v) × (v ≤ 60000)
     → Keeps f n v (v + 1) blank blank (replicate 64 false)
-blank-keeps f n v a b =
+blank_keeps f n v a b =
     let few = count_most 64 (λ u. not (get_or (replicate 64 false) u false)) in (
       a,
       (
@@ -78,14 +78,14 @@ blank-keeps f n v a b =
       ),
     )
 
-pub new-keeps
+pub new_keeps
     : (f : Phase) (n v : ℕ) → (1 ≤ n) × (n ≤ 64) → (1 ≤ v) × (v ≤ 60000)
     → Keeps f n v (v + 1) (table (replicate 4096 0)) (table (replicate 4096 0)) (replicate 64 false)
-new-keeps f n v a b =
-    subst (λ (t : Table). Keeps f n v (v + 1) t t (replicate 64 false)) (sym blank_table) (blank-keeps f n v a b)
+new_keeps f n v a b =
+    subst (λ (t : Table). Keeps f n v (v + 1) t t (replicate 64 false)) (sym blank_table) (blank_keeps f n v a b)
 
 -- the view of a sheet whose arrays are zeros
-pub new-view
+pub new_view
     : (number : ℕ) (f : Phase) (n v next : ℕ)
     → ◌≡◌ {A = View}
     record {
@@ -108,7 +108,7 @@ pub new-view
       out = λ _. false;
       next = next;
     }
-new-view number f n v next = λ i.
+new_view number f n v next = λ i.
     record {
       number = number;
       phase = f;

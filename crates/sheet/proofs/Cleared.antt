@@ -4,7 +4,7 @@ use mathlib.Core.Path.{fun_ext}
 use Rattle.std.proofs.lemmas.List.{length-set}
 use Rattle.std.proofs.lemmas.Bool.Decides.{nat_tests}
 use Rattle.sheet.specs.Tables.{Table, put, table, without}
-use Rattle.sheet.proofs.Tables.{table-set}
+use Rattle.sheet.proofs.Tables.{table_set}
 
 -- whether a pair has been cleared once the pairs of v with the nodes below k have been
 abbrev is_cleared : ℕ → ℕ → ℕ → ℕ → Bool
@@ -23,8 +23,8 @@ pub cleared_more
     : (v k : ℕ) (xs : List ℕ) (t : Table) → length xs ≡ 4096 → v < 64 → k < 64 → table xs ≡ cleared v k t
     → table (set (set xs (v * 64 + k) 0) (k * 64 + v) 0) ≡ cleared v (k + 1) t
 cleared_more v k xs t n a b e =
-    table-set (set xs (v * 64 + k) 0) k v 0 (length-set xs (v * 64 + k) 0 ∙ n) b a
-    ∙ ap (λ (s : Table). put s k v 0) (table-set xs v k 0 n a b ∙ ap (λ (s : Table). put s v k 0) e)
+    table_set (set xs (v * 64 + k) 0) k v 0 (length-set xs (v * 64 + k) 0 ∙ n) b a
+    ∙ ap (λ (s : Table). put s k v 0) (table_set xs v k 0 n a b ∙ ap (λ (s : Table). put s v k 0) e)
     ∙ fun_ext (λ i. fun_ext (λ j. go i j (t i j)))
   where
     go : (i j x : ℕ)

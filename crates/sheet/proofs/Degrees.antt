@@ -22,10 +22,10 @@ counted x d e o b f h s = let t = entry_there x in cc
 pub arcs_none : (p q : ℕ → Bool) → 0 ≡ count 0 p + count 0 q
 arcs_none p q = rw (count_zero p, count_zero q) refl
 
-pub arcs-more
+pub arcs_more
     : (k d e f : ℕ) (p q : ℕ → Bool) → d ≡ count k p + count k q → e ≡ d + cond (p k) 1 0 → f ≡ e + cond (q k) 1 0
     → f ≡ count (k + 1) p + count (k + 1) q
-arcs-more k d e f p q h a b = omega (arith, count_more k p, count_more k q)
+arcs_more k d e f p q h a b = omega (arith, count_more k p, count_more k q)
 
 pub arcs_all : (k n d : ℕ) (p q : ℕ → Bool) → k ≤ n → n ≤ k → d ≡ count k p + count k q → d ≡ count n p + count n q
 arcs_all k n d p q a b h = let e : n ≡ k = omega arith in rw e h
@@ -41,9 +41,9 @@ least_among_suc s k = refl
 pub least_among_more : (s : View) (k : ℕ) → least_among s (k + 1) ≡ better s (least_among s k) k
 least_among_more s k = rw add-one (least_among_suc s k)
 
-pub least-among-all
+pub least_among_all
     : (s : View) (k : ℕ) (o : Option ℕ) → k ≤ s.nodes → s.nodes ≤ k → o ≡ least_among s k → o ≡ least_node s
-least-among-all s k o a b h = let e : k ≡ s.nodes = omega arith in h ∙ ap (least_among s) e
+least_among_all s k o a b h = let e : k ≡ s.nodes = omega arith in h ∙ ap (least_among s) e
 
 -- the best of the nodes below k has the fewest arcs among them; where there is none, they are all out
 abbrev RightBelow : View → ℕ → Option ℕ → Type 0

@@ -21,7 +21,7 @@ drawable s m p h =
       valve = grind (arith, nat_tests);
     }
 
-pub drawn-view
+pub drawn_view
     : (s : View) (m : ℕ) (p : Pipe) (t : Table) → t ≡ put s.pipe p.from p.to p.valve → draw_refusal s m p ≡ None
     → with_pipes s t ≡ draw_step s m p
-drawn-view s m p t e h = ap (with_pipes s) e ∙ (rw h)
+drawn_view s m p t e h = ap (with_pipes s) e ∙ (rw h)

@@ -11,8 +11,8 @@ use Rattle.sheet.specs.View.{arcs_of, view}
 use Rattle.sheet.specs.declared.phase.Phase.{Phase}
 use Rattle.sheet.specs.declared.place.Sheet.{Sheet}
 use Rattle.sheet.proofs.Blank.{Keeps}
-use Rattle.sheet.proofs.Pairs.{given, pairs_with_all, with-arc-cases}
-use Rattle.sheet.proofs.Tables.{joins_put, put-cases}
+use Rattle.sheet.proofs.Pairs.{given, pairs_with_all, with_arc_cases}
+use Rattle.sheet.proofs.Tables.{joins_put, put_cases}
 
 pub record Fit (n v : ℕ) (out : List Bool) (k : Arcs) : Type 0 where
   pub some : v < k.next
@@ -33,7 +33,7 @@ pub record Remaining (n : ℕ) (out : List Bool) (p : ℕ × ℕ) : Type 0 where
 module _ (n v : ℕ) (out : List Bool) (k : Arcs) (p : ℕ × ℕ) (h : Fit n v out k) (r : Remaining n out p) where
   stays_given : Staying out (put k.arc p.0 p.1 k.next)
   stays_given u w l =
-      elim (put-cases k.arc p.0 p.1 k.next u w) [
+      elim (put_cases k.arc p.0 p.1 k.next u w) [
         | inl c ↦ (
           λ t. r.from_stays (subst (λ x. T (get_or out x false)) c.0 t),
           λ t. r.to_stays (subst (λ x. T (get_or out x false)) c.1 t),
@@ -43,26 +43,26 @@ module _ (n v : ℕ) (out : List Bool) (k : Arcs) (p : ℕ × ℕ) (h : Fit n v 
 
   above_given : Above v (put k.arc p.0 p.1 k.next)
   above_given u w l =
-      elim (put-cases k.arc p.0 p.1 k.next u w) [
+      elim (put_cases k.arc p.0 p.1 k.next u w) [
         | inl c ↦ omega (arith, c.2, h.some)
         | inr c ↦ let a = h.above u w (omega (arith, c.1)) in omega (arith, c.1)
       ]
 
   below_given : Below (k.next + 1) (put k.arc p.0 p.1 k.next)
   below_given u w =
-      elim (put-cases k.arc p.0 p.1 k.next u w) [
+      elim (put_cases k.arc p.0 p.1 k.next u w) [
         | inl c ↦ omega (arith, c.2)
         | inr c ↦ omega (arith, c.1, h.below u w)
       ]
 
   apart_given : Apart (put k.arc p.0 p.1 k.next)
   apart_given a b l =
-      elim (put-cases k.arc p.0 p.1 k.next a.0 a.1) [
-        | inl c ↦ elim (put-cases k.arc p.0 p.1 k.next b.0 b.1) [
+      elim (put_cases k.arc p.0 p.1 k.next a.0 a.1) [
+        | inl c ↦ elim (put_cases k.arc p.0 p.1 k.next b.0 b.1) [
           | inl d ↦ and_from _ _ (eq-eqb a.0 b.0 (c.0 ∙ sym d.0)) (eq-eqb a.1 b.1 (c.1 ∙ sym d.1))
           | inr d ↦ absurd (omega (arith, l.1, c.2, d.1, h.below b.0 b.1))
         ]
-        | inr c ↦ elim (put-cases k.arc p.0 p.1 k.next b.0 b.1) [
+        | inr c ↦ elim (put_cases k.arc p.0 p.1 k.next b.0 b.1) [
           | inl d ↦ absurd (omega (arith, l.1, c.1, d.2, h.below a.0 a.1))
           | inr d ↦ h.apart a b (omega (arith, l.0, c.1), sym c.1 ∙ l.1 ∙ d.1)
         ]
@@ -83,14 +83,14 @@ module _ (n v : ℕ) (out : List Bool) where
   fit_with_arcs [] k a h = h
   fit_with_arcs (q ∷ qs) k a h =
       fit_with_arcs qs (with_arc k q) a.1
-      (with-arc-cases k q (Fit n v out) (λ _. h) (λ d _. fit_given n v out k q h a.0 d))
+      (with_arc_cases k q (Fit n v out) (λ _. h) (λ d _. fit_given n v out k q h a.0 d))
 
   -- arcs at pairs of remaining nodes
-  pub fit-planned
+  pub fit_planned
       : (ps : Premises) (k : Arcs) → ((u w : ℕ) → are_there (ps u w) ≡ true → Remaining n out (u, w)) → Fit n v out k
       → Fit n v out (planned ps n k)
   unfolding planned
-  fit-planned ps k r h =
+  fit_planned ps k r h =
       fit_with_arcs (pairs_with ps n) k (pairs_with_all ps n (Remaining n out) (λ u w _ _ e. r u w e)) h
 
 -- what is there without a node
@@ -110,10 +110,10 @@ without_most x t u w = go (eqb u x || eqb w x)
     go false = omega arith
 
 -- the node x and its arcs leave
-pub fit-without
+pub fit_without
     : (n v : ℕ) (out : List Bool) (x : ℕ) (k : Arcs) → Fit n v out k
     → Fit n v (set out x true) (record { arc = without x k.arc; next = k.next })
-fit-without n v out x k h = record {
+fit_without n v out x k h = record {
   some = h.some;
   joins = λ u w l. let s = without_some x k.arc u w l in h.joins u w (omega (arith, s.2));
   stays = λ u w l.
@@ -137,16 +137,16 @@ below_with_arcs : (qs : List (ℕ × ℕ)) (k : Arcs) → Below k.next k.arc →
 below_with_arcs [] k h = h
 below_with_arcs (q ∷ qs) k h =
     below_with_arcs qs (with_arc k q)
-    (with-arc-cases k q (λ l. Below l.next l.arc) (λ _. h) (λ _ _ u w.
-    elim (put-cases k.arc q.0 q.1 k.next u w) [
+    (with_arc_cases k q (λ l. Below l.next l.arc) (λ _. h) (λ _ _ u w.
+    elim (put_cases k.arc q.0 q.1 k.next u w) [
       | inl c ↦ omega (arith, c.2)
       | inr c ↦ omega (arith, c.1, h u w)
     ]))
 
-pub below-planned
+pub below_planned
     : (ps : Premises) (n : ℕ) (k : Arcs) → Below k.next k.arc → (l : Arcs) → l ≡ planned ps n k → Below l.next l.arc
 unfolding planned
-below-planned ps n k h l e = subst (λ (l : Arcs). Below l.next l.arc) (sym e) (below_with_arcs (pairs_with ps n) k h)
+below_planned ps n k h l e = subst (λ (l : Arcs). Below l.next l.arc) (sym e) (below_with_arcs (pairs_with ps n) k h)
 
 -- the arcs of a sheet in memory
 pub fit_of : (s : Sheet) → Fit s.nodes s.valves s.out (arcs_of (view s))
@@ -160,11 +160,11 @@ fit_of s = record {
 }
 
 -- a sheet that has been started keeps what a sheet keeps, with other arcs that fit
-pub fit-keeps
+pub fit_keeps
     : (s : Sheet) (f : Phase) (out : List Bool) (k : Arcs) → Fit s.nodes s.valves out k → (T (is_fresh f) → ⊥)
     → k.next + 4096 * count 64 (λ u. not (get_or out u false)) ≤ 326241
     → Keeps f s.nodes s.valves k.next (table s.pipes) k.arc out
-fit-keeps s f out k h started few = (
+fit_keeps s f out k h started few = (
   s.nodes_few,
   (
     s.valves_few,

@@ -1,7 +1,7 @@
 -- The pairs that start and elimination go over, and the arcs that they plan: arcs keep their variables, and each pair with
 -- premises has an arc.
 use Rattle.std.proofs.Common.{◌≡◌, ℕ, zero, suc, ◌+◌, ◌*◌, ◌/◌, ◌%◌, ◌<◌, ◌≤◌, Bool, true, ◌||◌, eqb, ltb, ◌⊎◌, List, [], ◌∷◌, length, get_or, filter, sym, refl, ◌∙◌, subst, ap₂, inl, inr, arith}
-use Rattle.sheet.proofs.Tables.{put-cases}
+use Rattle.sheet.proofs.Tables.{put_cases}
 use Rattle.sheet.specs.Implications.{Arcs, Premises, are_there, has_premises, pair_at, pairs, pairs_with, planned}
 use Rattle.sheet.specs.Implications.{with_arc, with_arcs}
 use Rattle.sheet.specs.Tables.{put}
@@ -64,10 +64,10 @@ abbrev pub given : Arcs → ℕ × ℕ → Arcs
 given k p = record { arc = put k.arc p.0 p.1 k.next; next = k.next + 1 }
 
 module _ (k : Arcs) (p : ℕ × ℕ) where
-  pub with-arc-cases
+  pub with_arc_cases
       : (Q : Arcs → Type 0) → ((p.0 ≡ p.1) ⊎ (0 < k.arc p.0 p.1) → Q k)
       → ((p.0 ≡ p.1 → ⊥) → k.arc p.0 p.1 ≡ 0 → Q (given k p)) → Q (with_arc k p)
-  with-arc-cases Q f g =
+  with_arc_cases Q f g =
       cond_both (eqb p.0 p.1 || ltb 0 (k.arc p.0 p.1)) k (given k p) Q
       (λ e. f (elim (or_cases (eqb p.0 p.1) (ltb 0 (k.arc p.0 p.1)) e) [
         | inl a ↦ inl (eqb-true p.0 p.1 a)
@@ -78,23 +78,23 @@ module _ (k : Arcs) (p : ℕ × ℕ) where
       g (eqb-false p.0 p.1 r.0) (omega (arith, ltb-false 0 (k.arc p.0 p.1) r.1)))
 
   pub with_arc_next : k.next ≤ (with_arc k p).next
-  with_arc_next = with-arc-cases (λ z. k.next ≤ z.next) (λ _. omega arith) (λ _ _. omega arith)
+  with_arc_next = with_arc_cases (λ z. k.next ≤ z.next) (λ _. omega arith) (λ _ _. omega arith)
 
   pub given_keeps : (a b : ℕ) → k.arc p.0 p.1 ≡ 0 → 0 < k.arc a b → (given k p).arc a b ≡ k.arc a b
   given_keeps a b e l =
-      elim (put-cases k.arc p.0 p.1 k.next a b) [
+      elim (put_cases k.arc p.0 p.1 k.next a b) [
         | inl h ↦ absurd (let z : k.arc a b ≡ 0 = ap₂ k.arc h.0 h.1 ∙ e in omega arith)
         | inr h ↦ h.1
       ]
 
   pub with_arc_keeps : (a b : ℕ) → 0 < k.arc a b → (with_arc k p).arc a b ≡ k.arc a b
-  with_arc_keeps a b l = with-arc-cases (λ z. z.arc a b ≡ k.arc a b) (λ _. refl) (λ _ e. given_keeps a b e l)
+  with_arc_keeps a b l = with_arc_cases (λ z. z.arc a b ≡ k.arc a b) (λ _. refl) (λ _ e. given_keeps a b e l)
 
   pub with_arc_gives : 0 < k.next → (p.0 ≡ p.1 → ⊥) → 0 < (with_arc k p).arc p.0 p.1
   with_arc_gives l d =
-      with-arc-cases (λ z. 0 < z.arc p.0 p.1) (λ h. elim h [ inl a ↦ absurd (d a) | inr a ↦ a ])
+      with_arc_cases (λ z. 0 < z.arc p.0 p.1) (λ h. elim h [ inl a ↦ absurd (d a) | inr a ↦ a ])
       (λ _ _.
-      elim (put-cases k.arc p.0 p.1 k.next p.0 p.1) [
+      elim (put_cases k.arc p.0 p.1 k.next p.0 p.1) [
         | inl h ↦ omega (arith, h.2)
         | inr h ↦ absurd (h.0 refl refl)
       ])
@@ -109,15 +109,15 @@ with_arcs_keeps [] k a b l = refl
 with_arcs_keeps (q ∷ qs) k a b l =
     let e = with_arc_keeps k q a b l in with_arcs_keeps qs (with_arc k q) a b (omega arith) ∙ e
 
-with-arcs-gives
+with_arcs_gives
     : (qs : List (ℕ × ℕ)) (k : Arcs) → 0 < k.next
     → All (λ q. (q.0 ≡ q.1 → ⊥) → 0 < (with_arcs k qs).arc q.0 q.1) qs
-with-arcs-gives [] k l = tt
-with-arcs-gives (q ∷ qs) k l = (
+with_arcs_gives [] k l = tt
+with_arcs_gives (q ∷ qs) k l = (
   λ d.
       let g = with_arc_gives k q l d in
       let e = with_arcs_keeps qs (with_arc k q) q.0 q.1 g in omega arith,
-  with-arcs-gives qs (with_arc k q) (omega (arith, with_arc_next k q)),
+  with_arcs_gives qs (with_arc k q) (omega (arith, with_arc_next k q)),
 )
 
 -- arcs at all pairs with premises
@@ -126,9 +126,9 @@ module _ (ps : Premises) (n : ℕ) (k : Arcs) where
   unfolding planned
   planned_keeps a b l = with_arcs_keeps (pairs_with ps n) k a b l
 
-  pub planned-gives
+  pub planned_gives
       : 0 < k.next → (u w : ℕ) → u < n → w < n → are_there (ps u w) ≡ true → (u ≡ w → ⊥) → 0 < (planned ps n k).arc u w
   unfolding planned
-  planned-gives l =
+  planned_gives l =
       pairs_with_has ps n (λ q. (q.0 ≡ q.1 → ⊥) → 0 < (with_arcs k (pairs_with ps n)).arc q.0 q.1)
-      (with-arcs-gives (pairs_with ps n) k l)
+      (with_arcs_gives (pairs_with ps n) k l)

@@ -8,28 +8,28 @@ use Rattle.std.specs.List.{range_with_len}
 use Rattle.sheet.specs.Implications.{Arcs, Premises, has_premises, implication, implications, pair_at, pairs_with, planned}
 use Rattle.sheet.specs.Implications.{with_arc, with_arcs}
 use Rattle.sheet.specs.Tables.{Table, put, table}
-use Rattle.sheet.proofs.Tables.{table_at, table-set}
+use Rattle.sheet.proofs.Tables.{table_at, table_set}
 
 abbrev arcs_in : List ℕ → ℕ → Arcs
 arcs_in xs next = record { arc = table xs; next = next }
 
 module _ (xs : List ℕ) (u w next : ℕ) (n : length xs ≡ 4096) (a : u < 64) (b : w < 64) where
   -- a pair of different nodes without an arc gets one
-  pub arc-given
+  pub arc_given
       : (u ≡ w → ⊥) → get_or xs (u * 64 + w) 0 ≡ 0
       → arcs_in (set xs (u * 64 + w) next) (next + 1) ≡ with_arc (arcs_in xs next) (u, w)
-  arc-given d z =
+  arc_given d z =
       let e = table_at xs u w a b in
       let t = or_from (eqb u w) (ltb 0 (table xs u w)) (ne_eqb u w d) (le-ltb 0 (table xs u w) (omega arith)) in
-      ap (λ (t : Table). record { arc = t; next = next + 1 }) (table-set xs u w next n a b)
+      ap (λ (t : Table). record { arc = t; next = next + 1 }) (table_set xs u w next n a b)
       ∙ sym (cond-false _ (arcs_in xs next) _ t)
 
   -- any other pair keeps what it has
-  pub arc-kept
+  pub arc_kept
       : (u ≡ w) ⊎ ((u ≡ w → ⊥) × (get_or xs (u * 64 + w) 0 ≡ 0 → ⊥))
       → arcs_in xs next ≡ with_arc (arcs_in xs next) (u, w)
-  arc-kept (inl e) = sym (cond-true _ (arcs_in xs next) _ (or_left (eqb u w) (ltb 0 (table xs u w)) (eq-eqb u w e)))
-  arc-kept (inr h) =
+  arc_kept (inl e) = sym (cond-true _ (arcs_in xs next) _ (or_left (eqb u w) (ltb 0 (table xs u w)) (eq-eqb u w e)))
+  arc_kept (inr h) =
       let e = table_at xs u w a b in
       let d = h.1 in
       let l : 0 < table xs u w = omega arith in
@@ -65,10 +65,10 @@ module _ (ps : Premises) (n i : ℕ) where
   pub done_noted : has_premises ps (pair_at n i) ≡ true → done ps n i ++ (pair_at n i ∷ []) ≡ done ps n (i + 1)
   done_noted h = sym (done_more ∙ ap (λ b. done ps n i ++ cond b (pair_at n i ∷ []) []) h)
 
-  pub arcs-noted
+  pub arcs_noted
       : (k : Arcs) → has_premises ps (pair_at n i) ≡ true
       → with_arc (with_arcs k (done ps n i)) (pair_at n i) ≡ with_arcs k (done ps n (i + 1))
-  arcs-noted k h = sym (with_arcs_push k (done ps n i) (pair_at n i)) ∙ ap (with_arcs k) (done_noted h)
+  arcs_noted k h = sym (with_arcs_push k (done ps n i) (pair_at n i)) ∙ ap (with_arcs k) (done_noted h)
 
 pub done_all : (ps : Premises) (n i : ℕ) → i ≡ n * n → done ps n i ≡ pairs_with ps n
 unfolding pairs_with
@@ -79,8 +79,8 @@ unfolding planned
 planned_is ps n k = refl
 
 -- a plan that was made for the premises tells their implications
-pub implications-are
+pub implications_are
     : (ps : Premises) (n : ℕ) (k : Arcs) (qs : List (ℕ × ℕ)) (l : Arcs) → qs ≡ pairs_with ps n → l ≡ planned ps n k
     → map (λ p. implication (ps p.0 p.1) l.arc p) qs ≡ implications ps n k
 unfolding implications
-implications-are ps n k qs l e f = λ i. map (λ p. implication (ps p.0 p.1) (f i).arc p) (e i)
+implications_are ps n k qs l e f = λ i. map (λ p. implication (ps p.0 p.1) (f i).arc p) (e i)

@@ -6,10 +6,10 @@ use Rattle.std.proofs.lemmas.Bool.{and_from, and_parts, both_ways, cases_eq, eq-
 use Rattle.sheet.specs.Tables.{Joins, Table, Upto, put, table}
 
 -- what stands at a pair once one pair has a new entry
-pub put-cases
+pub put_cases
     : (t : Table) (u w x a b : ℕ)
     → ((a ≡ u) × (b ≡ w) × (put t u w x a b ≡ x)) ⊎ ((a ≡ u → b ≡ w → ⊥) × (put t u w x a b ≡ t a b))
-put-cases t u w x a b = go (eqb a u && eqb b w) refl
+put_cases t u w x a b = go (eqb a u && eqb b w) refl
   where
     go : (c : Bool) → (eqb a u && eqb b w) ≡ c
         → ((a ≡ u) × (b ≡ w) × (cond c x (t a b) ≡ x)) ⊎ ((a ≡ u → b ≡ w → ⊥) × (cond c x (t a b) ≡ t a b))
@@ -21,9 +21,9 @@ pub table_at : (xs : List ℕ) (u w : ℕ) → u < 64 → w < 64 → table xs u 
 table_at xs u w a b = rw (lt-ltb u 64 a, lt-ltb w 64 b)
 
 -- writing a place of the array is writing an entry of the table
-pub table-set
+pub table_set
     : (xs : List ℕ) (u w x : ℕ) → length xs ≡ 4096 → u < 64 → w < 64 → table (set xs (u * 64 + w) x) ≡ put (table xs) u w x
-table-set xs u w x n a b = fun_ext (λ i. fun_ext (λ j. go i j))
+table_set xs u w x n a b = fun_ext (λ i. fun_ext (λ j. go i j))
   where
     other : (i j : ℕ) → (i ≡ u → j ≡ w → ⊥) → (t : Bool) → (ltb i 64 && ltb j 64) ≡ t
         → cond t (get_or (set xs (u * 64 + w) x) (i * 64 + j) 0) 0 ≡ cond t (get_or xs (i * 64 + j) 0) 0
@@ -36,7 +36,7 @@ table-set xs u w x n a b = fun_ext (λ i. fun_ext (λ j. go i j))
 
     go : (i j : ℕ) → table (set xs (u * 64 + w) x) i j ≡ put (table xs) u w x i j
     go i j =
-        elim (put-cases (table xs) u w x i j) [
+        elim (put_cases (table xs) u w x i j) [
           | inl h ↦
               let p = h.0 in
               let q = h.1 in
@@ -48,11 +48,11 @@ table-set xs u w x n a b = fun_ext (λ i. fun_ext (λ j. go i j))
 module _ (t : Table) (u w x : ℕ) where
   pub joins_put : (n : ℕ) → Joins n t → u < n → w < n → (u ≡ w → ⊥) → Joins n (put t u w x)
   joins_put n h a b d i j l =
-      elim (put-cases t u w x i j) [
+      elim (put_cases t u w x i j) [
         | inl k ↦ (omega (arith, k.0), omega (arith, k.1), λ e. d (omega (arith, k.0, k.1)))
         | inr k ↦ h i j (omega (arith, k.1))
       ]
 
   pub upto_put : (top : ℕ) → Upto top t → x ≤ top → Upto top (put t u w x)
   upto_put top h a i j =
-      elim (put-cases t u w x i j) [ inl k ↦ omega (arith, k.2) | inr k ↦ omega (arith, k.1, h i j) ]
+      elim (put_cases t u w x i j) [ inl k ↦ omega (arith, k.2) | inr k ↦ omega (arith, k.1, h i j) ]

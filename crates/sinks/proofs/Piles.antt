@@ -33,11 +33,11 @@ length_without_last [] = refl
 length_without_last (z ∷ []) = refl
 length_without_last (z ∷ (y ∷ ys)) = omega (arith, length_without_last (y ∷ ys))
 
-pub lengths-without-last
+pub lengths_without_last
     : (cs : List Clause) (k : ℕ) → option_map length (nth (map without_last cs) k) ≡ option_map (λ n. n - 1) (option_map length (nth cs k))
-lengths-without-last [] k = refl
-lengths-without-last (c ∷ cs) zero = ap Some (length_without_last c)
-lengths-without-last (c ∷ cs) (suc k) = lengths-without-last cs k
+lengths_without_last [] k = refl
+lengths_without_last (c ∷ cs) zero = ap Some (length_without_last c)
+lengths_without_last (c ∷ cs) (suc k) = lengths_without_last cs k
 
 pub nth_without_last : (c : Clause) (j : ℕ) → j < length c - 1 → nth (without_last c) j ≡ nth c j
 nth_without_last [] j h = refl
@@ -59,37 +59,37 @@ lengths_map f [] k = refl
 lengths_map f (c ∷ cs) zero = ap Some (length-map c f)
 lengths_map f (c ∷ cs) (suc k) = lengths_map f cs k
 
-pub literals-map
+pub literals_map
     : (f : ℤ → ℤ) (cs : List Clause) (k j : ℕ) → nth (get_or (map (map f) cs) k []) j ≡ option_map f (nth (get_or cs k []) j)
-literals-map f [] k j = refl
-literals-map f (c ∷ cs) zero j = nth_map f c j
-literals-map f (c ∷ cs) (suc k) j = literals-map f cs k j
+literals_map f [] k j = refl
+literals_map f (c ∷ cs) zero j = nth_map f c j
+literals_map f (c ∷ cs) (suc k) j = literals_map f cs k j
 
 -- what the form of a clause says
-form-parts-by
+form_parts_by
     : (a b : Bool) → ◌≡◌ {A = Option SinkRefusal} (cond a (Some Length) (cond b (Some Literal) None)) None
     → (a ≡ false) × (b ≡ false)
-form-parts-by true b h = absurd (grind (arith, h))
-form-parts-by false true h = absurd (grind (arith, h))
-form-parts-by false false h = (refl, refl)
+form_parts_by true b h = absurd (grind (arith, h))
+form_parts_by false true h = absurd (grind (arith, h))
+form_parts_by false false h = (refl, refl)
 
-form-parts
+form_parts
     : (top longest : ℕ) (c : Clause) → form_refusal top longest c ≡ None
     → (bad_length longest c ≡ false) × (has_bad_literal top c ≡ false)
-form-parts top longest c h = form-parts-by _ _ h
+form_parts top longest c h = form_parts_by _ _ h
 
-form-from
+form_from
     : (top longest : ℕ) (c : Clause) → bad_length longest c ≡ false → has_bad_literal top c ≡ false
     → form_refusal top longest c ≡ None
-form-from top longest c p q =
+form_from top longest c p q =
     ap (λ (x : Bool). cond x (Some Length) (cond (has_bad_literal top c) (Some Literal) None)) p
     ∙ ap (λ (x : Bool). cond x (Some Literal) None) q
 
-priced-taken
+priced_taken
     : (top longest : ℕ) (cost : Clause → ℕ) (stored : Clause → Clause) (c : Clause) → form_refusal top longest c ≡ None
     → priced top longest cost stored c ≡ cost (stored c)
-priced-taken top longest cost stored c h =
-    let p = form-parts top longest c h in
+priced_taken top longest cost stored c h =
+    let p = form_parts top longest c h in
     ap (λ (x : Bool). cond x 0 (cond (has_bad_literal top c) 0 (cost (stored c)))) p.0
     ∙ ap (λ (x : Bool). cond x 0 (cost (stored c))) p.1
 
@@ -97,57 +97,57 @@ priced-taken top longest cost stored c h =
 abbrev room_refusal : State → ℕ → Option SinkRefusal
 room_refusal s n = cond (eqb s.entries 0 || ltb s.units n) (Some Room) None
 
-refused-for-room
+refused_for_room
     : (s : State) (c : Clause) → form_refusal s.top s.longest c ≡ None → add_refusal s c ≡ room_refusal s (s.cost c)
-refused-for-room s c h =
-    let p = form-parts s.top s.longest c h in
+refused_for_room s c h =
+    let p = form_parts s.top s.longest c h in
     ap (λ (x : Bool). cond x (Some Length) (cond (has_bad_literal s.top c) (Some Literal) (room_refusal s (s.cost c)))) p.0
     ∙ ap (λ (x : Bool). cond x (Some Literal) (room_refusal s (s.cost c))) p.1
 
-refused-by
+refused_by
     : (a b : Bool) (x : Option SinkRefusal) (f : SinkRefusal) → Some f ≡ cond a (Some Length) (cond b (Some Literal) None)
     → Some f ≡ cond a (Some Length) (cond b (Some Literal) x)
-refused-by true b x f e = e
-refused-by false true x f e = e
-refused-by false false x f e = absurd (grind (arith, e))
+refused_by true b x f e = e
+refused_by false true x f e = e
+refused_by false false x f e = absurd (grind (arith, e))
 
-pub refused-for-form
+pub refused_for_form
     : (s : State) (c : Clause) (f : SinkRefusal) → Some f ≡ form_refusal s.top s.longest c → Some f ≡ add_refusal s c
-refused-for-form s c f e = refused-by (bad_length s.longest c) (has_bad_literal s.top c) (room_refusal s (s.cost c)) f e
+refused_for_form s c f e = refused_by (bad_length s.longest c) (has_bad_literal s.top c) (room_refusal s (s.cost c)) f e
 
 -- a guard
-good-push
+good_push
     : (top : ℕ) (c : Clause) (g : ℤ) → has_bad_literal top c ≡ false → bad_literal top g ≡ false
     → has_bad_literal top (c ++ (g ∷ [])) ≡ false
-good-push top [] g h m = or_from _ _ m refl
-good-push top (z ∷ zs) g h m =
+good_push top [] g h m = or_from _ _ m refl
+good_push top (z ∷ zs) g h m =
     let p = or_parts (bad_literal top z) _ h in
-    or_from _ _ p.0 (good-push top zs g p.1 m)
+    or_from _ _ p.0 (good_push top zs g p.1 m)
 
-guard-fits
+guard_fits
     : (m : Bool) (longest n : ℕ) → (eqb n 0 || ltb (cond m 0 (longest - 1)) n) ≡ false → (m ≡ false) × (0 < n) × (n + 1 ≤ longest)
-guard-fits true longest n h = absurd (grind (arith, nat_tests))
-guard-fits false longest n h = (refl, grind (arith, nat_tests), grind (arith, nat_tests))
+guard_fits true longest n h = absurd (grind (arith, nat_tests))
+guard_fits false longest n h = (refl, grind (arith, nat_tests), grind (arith, nat_tests))
 
-pub guard-form
+pub guard_form
     : (g : ℤ) (top longest : ℕ) (c : Clause) → form_refusal top (guard_longest g top longest) c ≡ None
     → form_refusal top longest (c ++ (g ∷ [])) ≡ None
-guard-form g top longest c h =
-    let p = form-parts top (guard_longest g top longest) c h in
-    let f = guard-fits (bad_literal top g) longest (length c) p.0 in
+guard_form g top longest c h =
+    let p = form_parts top (guard_longest g top longest) c h in
+    let f = guard_fits (bad_literal top g) longest (length c) p.0 in
     let n : length (c ++ (g ∷ [])) ≡ length c + 1 = length-append c (g ∷ []) in
     let m : bad_length longest (c ++ (g ∷ [])) ≡ false = grind (arith, nat_tests) in
-    form-from top longest (c ++ (g ∷ [])) m (good-push top c g p.1 f.0)
+    form_from top longest (c ++ (g ∷ [])) m (good_push top c g p.1 f.0)
 
 module _ (g : ℤ) (s : State) (c : Clause) (fine : form_refusal s.top (guard_longest g s.top s.longest) c ≡ None) where
   pub guard_cost : (guarded g s).cost c ≡ s.cost (c ++ (g ∷ []))
-  guard_cost = priced-taken s.top (guard_longest g s.top s.longest) s.cost (λ c. c ++ (g ∷ [])) c fine
+  guard_cost = priced_taken s.top (guard_longest g s.top s.longest) s.cost (λ c. c ++ (g ∷ [])) c fine
 
   pub guard_refusal : add_refusal s (c ++ (g ∷ [])) ≡ add_refusal (guarded g s) c
   guard_refusal =
-      refused-for-room s (c ++ (g ∷ [])) (guard-form g s.top s.longest c fine)
+      refused_for_room s (c ++ (g ∷ [])) (guard_form g s.top s.longest c fine)
       ∙ ap (room_refusal s) (sym guard_cost)
-      ∙ sym (refused-for-room (guarded g s) c fine)
+      ∙ sym (refused_for_room (guarded g s) c fine)
 
   guard_added : guarded g (added s (c ++ (g ∷ []))) ≡ added (guarded g s) c
   guard_added = λ i. record {
@@ -162,20 +162,20 @@ module _ (g : ℤ) (s : State) (c : Clause) (fine : form_refusal s.top (guard_lo
     bottom = s.bottom ++ (stored_as s.layers (c ++ (g ∷ [])) ∷ []);
   }
 
-  pub guard-after
+  pub guard_after
       : (r : Bool) (t : State) → t ≡ cond r (added s (c ++ (g ∷ []))) s
       → guarded g t ≡ cond r (added (guarded g s) c) (guarded g s)
-  guard-after true t e = ap (guarded g) e ∙ guard_added
-  guard-after false t e = ap (guarded g) e
+  guard_after true t e = ap (guarded g) e ∙ guard_added
+  guard_after false t e = ap (guarded g) e
 
-  pub guard-appended
+  pub guard_appended
       : (r : Bool) (cs ds : List Clause) → ds ≡ cond r (cs ++ ((c ++ (g ∷ [])) ∷ [])) cs
       → map without_last ds ≡ cond r (map without_last cs ++ (c ∷ [])) (map without_last cs)
-  guard-appended true cs ds e =
+  guard_appended true cs ds e =
       ap (map without_last) e
       ∙ map_push without_last cs (c ++ (g ∷ []))
       ∙ ap (λ l. map without_last cs ++ (l ∷ [])) (without_last_push c g)
-  guard-appended false cs ds e = ap (map without_last) e
+  guard_appended false cs ds e = ap (map without_last) e
 
 -- an offset
 variable_raised : (d : ℕ) (z : ℤ) → nat_abs (raised d z) ≡ nat_abs z + d
@@ -195,11 +195,11 @@ lowered_raised d (negsuc n) h =
 pub good_bounds : (top : ℕ) (z : ℤ) → bad_literal top z ≡ false → (0 < nat_abs z) × (nat_abs z ≤ top)
 good_bounds top z h = (grind (arith, nat_tests), grind (arith, nat_tests))
 
-pub good-at
+pub good_at
     : (top : ℕ) (c : Clause) (i : ℕ) → i < length c → has_bad_literal top c ≡ false → bad_literal top (get_or c i (pos 0)) ≡ false
-good-at top [] i l h = absurd (omega arith)
-good-at top (z ∷ zs) zero l h = (or_parts _ _ h).0
-good-at top (z ∷ zs) (suc i) l h = good-at top zs i (omega arith) (or_parts _ _ h).1
+good_at top [] i l h = absurd (omega arith)
+good_at top (z ∷ zs) zero l h = (or_parts _ _ h).0
+good_at top (z ∷ zs) (suc i) l h = good_at top zs i (omega arith) (or_parts _ _ h).1
 
 good_raised : (top d : ℕ) (z : ℤ) → bad_literal (top - d) z ≡ false → bad_literal top (raised d z) ≡ false
 good_raised top d z h =
@@ -219,23 +219,23 @@ all_lowered_raised top d (z ∷ zs) h =
     let p = or_parts (bad_literal top z) _ h in
     λ i. lowered_raised d z (good_bounds top z p.0).0 i ∷ all_lowered_raised top d zs p.1 i
 
-pub offset-form
+pub offset_form
     : (d top longest : ℕ) (c : Clause) → form_refusal (top - d) longest c ≡ None
     → form_refusal top longest (map (raised d) c) ≡ None
-offset-form d top longest c h =
-    let p = form-parts (top - d) longest c h in
-    form-from top longest (map (raised d) c) (ap (λ n. eqb n 0 || ltb longest n) (length-map c (raised d)) ∙ p.0)
+offset_form d top longest c h =
+    let p = form_parts (top - d) longest c h in
+    form_from top longest (map (raised d) c) (ap (λ n. eqb n 0 || ltb longest n) (length-map c (raised d)) ∙ p.0)
     (all_good_raised top d c p.1)
 
 module _ (d : ℕ) (s : State) (c : Clause) (fine : form_refusal (s.top - d) s.longest c ≡ None) where
   pub offset_cost : (shifted d s).cost c ≡ s.cost (map (raised d) c)
-  offset_cost = priced-taken (s.top - d) s.longest s.cost (map (raised d)) c fine
+  offset_cost = priced_taken (s.top - d) s.longest s.cost (map (raised d)) c fine
 
   pub offset_refusal : add_refusal s (map (raised d) c) ≡ add_refusal (shifted d s) c
   offset_refusal =
-      refused-for-room s (map (raised d) c) (offset-form d s.top s.longest c fine)
+      refused_for_room s (map (raised d) c) (offset_form d s.top s.longest c fine)
       ∙ ap (room_refusal s) (sym offset_cost)
-      ∙ sym (refused-for-room (shifted d s) c fine)
+      ∙ sym (refused_for_room (shifted d s) c fine)
 
   offset_added : shifted d (added s (map (raised d) c)) ≡ added (shifted d s) c
   offset_added = λ i. record {
@@ -250,18 +250,18 @@ module _ (d : ℕ) (s : State) (c : Clause) (fine : form_refusal (s.top - d) s.l
     bottom = s.bottom ++ (stored_as s.layers (map (raised d) c) ∷ []);
   }
 
-  pub offset-after
+  pub offset_after
       : (r : Bool) (t : State) → t ≡ cond r (added s (map (raised d) c)) s
       → shifted d t ≡ cond r (added (shifted d s) c) (shifted d s)
-  offset-after true t e = ap (shifted d) e ∙ offset_added
-  offset-after false t e = ap (shifted d) e
+  offset_after true t e = ap (shifted d) e ∙ offset_added
+  offset_after false t e = ap (shifted d) e
 
-  pub offset-appended
+  pub offset_appended
       : (r : Bool) (cs ds : List Clause) → ds ≡ cond r (cs ++ (map (raised d) c ∷ [])) cs
       → map (map (lowered d)) ds ≡ cond r (map (map (lowered d)) cs ++ (c ∷ [])) (map (map (lowered d)) cs)
-  offset-appended true cs ds e =
+  offset_appended true cs ds e =
       ap (map (map (lowered d))) e
       ∙ map_push (map (lowered d)) cs (map (raised d) c)
       ∙ ap (λ l. map (map (lowered d)) cs ++ (l ∷ []))
-      (all_lowered_raised (s.top - d) d c (form-parts (s.top - d) s.longest c fine).1)
-  offset-appended false cs ds e = ap (map (map (lowered d))) e
+      (all_lowered_raised (s.top - d) d c (form_parts (s.top - d) s.longest c fine).1)
+  offset_appended false cs ds e = ap (map (map (lowered d))) e

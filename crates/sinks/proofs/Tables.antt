@@ -184,11 +184,11 @@ answered false true b e u n t h = absurd (grind (arith, t))
 answered false false b e u n t h = ap (λ r. cond r (Some Room) None) (sym h)
 
 -- the answer to a clause of good form: by the room alone
-pub table-answer
+pub table_answer
     : (pairs : List (ℕ × ℕ)) (n : ℕ) (xs : Clause) (u : ℕ) (c : Clause) (b : Bool) → form_refusal 1_073_741_823 256 c ≡ None
     → (eqb (min (length pairs) 1_000_000 - n) 0 || ltb (min (length xs) 1_073_741_824 - u) (length c)) ≡ b
     → cond b (Some Room) None ≡ add_refusal (table_state pairs n xs u) c
-table-answer pairs n xs u c b t h =
+table_answer pairs n xs u c b t h =
     answered (bad_length 256 c) (has_bad_literal 1_073_741_823 c) b (min (length pairs) 1_000_000 - n) (min (length xs) 1_073_741_824 - u) (length c) t h
 
 -- a table with one clause more

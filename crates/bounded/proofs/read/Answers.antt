@@ -1,9 +1,9 @@
 use Rattle.std.proofs.Common.{◌≤◌, length, take, sym, ⊎_elim, arith, length-take}
-use Rattle.bounded.proofs.Entries.{nth-front, nth_past}
+use Rattle.bounded.proofs.Entries.{nth_front, nth_past}
 use Rattle.bounded.proofs.read.Goals as goal
 
 pub returns-then-i-places : goal.returns-then-i-places
-returns-then-i-places g c = nth-front _ _ _ _ c.if-i-count.true c.if-i-places.true c.index-places-i.is
+returns-then-i-places g c = nth_front _ _ _ _ c.if-i-count.true c.if-i-places.true c.index-places-i.is
 
 pub returns-else-i-count : goal.returns-else-i-count
 returns-else-i-count g c =

@@ -4,9 +4,9 @@ use Rattle.std.proofs.lemmas.Nat.{div_below, mod_below}
 use Rattle.closings.specs.Inputs.{arc_count, input}
 use Rattle.closings.specs.ClosureListing.{
   closure_first,
-  closure-past,
-  closure-second,
-  closure-third,
+  closure_past,
+  closure_second,
+  closure_third,
   positive_cube,
   positive_square,
 }
@@ -23,7 +23,7 @@ returns-then-second-cube c =
     let p = positive_cube r _ h in
     let q = positive_square r _ _ h in
     record {
-      is = closure-second (input c.args.x.now) c.args.k _ (omega (arith, c.if-k-nodes.false)) h;
+      is = closure_second (input c.args.x.now) c.args.k _ (omega (arith, c.if-k-nodes.false)) h;
       within = (div_below _ _ r q h, div_below _ r r p (mod_below _ _ q), mod_below _ r p);
     }
 
@@ -34,13 +34,13 @@ returns-then-third-arc-count c =
     let t = c.args.k - r - r * (r * r) in
     let l : t < arc_count x = omega (arith, c.if-third-arc-count.true, c.arc-count.ensures.is) in
     record {
-      is = closure-third x c.args.k t (omega (arith, c.if-k-nodes.false, c.if-second-cube.false)) l;
+      is = closure_third x c.args.k t (omega (arith, c.if-k-nodes.false, c.if-second-cube.false)) l;
       within = l;
     }
 
 pub returns : goal.returns
 returns c =
     record {
-      is = closure-past (input c.args.x.now) c.args.k (omega (arith, c.arc-count.ensures.is));
+      is = closure_past (input c.args.x.now) c.args.k (omega (arith, c.arc-count.ensures.is));
       within = tt;
     }

@@ -1,6 +1,6 @@
 -- The place that is found is that of the clause.
 use Rattle.closings.specs.Inputs.{input}
-use Rattle.closings.specs.StepsListing.{found-enters, found-leaves, found_past, found_rises, found-some-step}
+use Rattle.closings.specs.StepsListing.{found_enters, found_leaves, found_past, found_rises, found_some_step}
 use Rattle.closings.proofs.steps.find.Goals as goal
 
 pub returns-then-k-rises : goal.returns-then-k-rises
@@ -17,21 +17,21 @@ returns-then-a-arc-count c =
 
 pub returns-then-at-steps : goal.returns-then-at-steps
 returns-then-at-steps c =
-    let f = found-some-step (input c.args.x.now) c.args.k _ _ c.step-count-steps.ensures
+    let f = found_some_step (input c.args.x.now) c.args.k _ _ c.step-count-steps.ensures
     c.saturating-sub-row.ensures c.if-k-rises.false (rw c.arc-count.ensures.is at c.if-a-arc-count.false)
     c.if-at-steps.true in
     record { is = f.is; within = f.within }
 
 pub returns-then-at-eq0 : goal.returns-then-at-eq0
 returns-then-at-eq0 c =
-    let f = found-leaves (input c.args.x.now) c.args.k _ _ c.step-count-steps.ensures
+    let f = found_leaves (input c.args.x.now) c.args.k _ _ c.step-count-steps.ensures
     c.saturating-sub-row.ensures c.if-k-rises.false (rw c.arc-count.ensures.is at c.if-a-arc-count.false)
     c.if-at-steps.false c.if-at-eq0.true in
     record { is = f.is; within = f.within }
 
 pub returns-else-at-eq0 : goal.returns-else-at-eq0
 returns-else-at-eq0 c =
-    let f = found-enters (input c.args.x.now) c.args.k _ _ c.step-count-steps.ensures
+    let f = found_enters (input c.args.x.now) c.args.k _ _ c.step-count-steps.ensures
     c.saturating-sub-row.ensures c.if-k-rises.false (rw c.arc-count.ensures.is at c.if-a-arc-count.false)
     c.if-at-steps.false c.if-at-eq0.false in
     record { is = f.is; within = f.within }

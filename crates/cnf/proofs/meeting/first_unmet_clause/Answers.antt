@@ -1,7 +1,7 @@
 use Rattle.std.proofs.Common.{◌≡◌, ℕ, ◌+◌, ◌<◌, ◌≤◌, true, [], length, get_or, sym, ap, ◌∙◌, arith}
 use Rattle.cnf.specs.Meeting.{met}
 use Rattle.cnf.specs.Writing.{any}
-use Rattle.cnf.proofs.Unmet.{names-found, names-none, unmet-found, unmet-none}
+use Rattle.cnf.proofs.Unmet.{names_found, names_none, unmet_found, unmet_none}
 use Rattle.cnf.proofs.meeting.first_unmet_clause.Goals as goal
 
 pub returns-then-not-is-met : goal.returns-then-not-is-met
@@ -14,8 +14,8 @@ returns-then-not-is-met g c =
     λ i h. ap (λ s. any (met values) (get_or (g.F.Formula.clauses s) i [])) (sym origin) ∙ c.loop-k.invariant.1 i h in
     let l : c.loop-k.k < length (g.F.Formula.clauses c.args.formula.now) = omega (arith, c.loop-k-test.true, c.count-count.ensures.value) in
     record {
-      value = unmet-found values cs _ l before here;
-      right = names-found values cs _ l before here;
+      value = unmet_found values cs _ l before here;
+      right = names_found values cs _ l before here;
       same = c.is-met.ensures.same ∙ c.loop-k.invariant.0 ∙ origin;
     }
 
@@ -27,7 +27,7 @@ returns g c =
     let all : (i : ℕ) → i < length (g.F.Formula.clauses c.args.formula.now) → any (met c.args.values.now) (get_or (g.F.Formula.clauses c.args.formula.now) i []) ≡ true =
     λ i h. ap (λ s. any (met values) (get_or (g.F.Formula.clauses s) i [])) (sym origin) ∙ c.loop-k.invariant.1 i (omega (arith, c.loop-k-test.false, c.count-count.ensures.value)) in
     record {
-      value = unmet-none values cs all;
-      right = names-none values cs all;
+      value = unmet_none values cs all;
+      right = names_none values cs all;
       same = c.loop-k.invariant.0 ∙ origin;
     }

@@ -3,7 +3,7 @@ use Rattle.std.proofs.lemmas.Bool.{or_left}
 use Rattle.cnf.specs.Meeting.{met}
 use Rattle.cnf.specs.Writing.{any}
 use Rattle.cnf.proofs.Copies.{length_or_zero}
-use Rattle.cnf.proofs.Unmet.{any-chunk, chunk-is}
+use Rattle.cnf.proofs.Unmet.{any_chunk, chunk_is}
 use Rattle.cnf.proofs.Writes.{any_end}
 use Rattle.cnf.proofs.meeting.is_met.Given as given
 use Rattle.cnf.proofs.meeting.is_met.Goals as goal
@@ -37,8 +37,8 @@ looked g c =
     let after = c.copy-literals-n.ensures.after
     ∙ ap (λ s. take c.copy-literals-n.result (drop c.loop-from.from (get_or (g.F.Formula.clauses s) c.args.k [])) ++ drop c.copy-literals-n.result c.loop-from.buffer) c.loop-from.invariant.0 in
     c.loop-from.invariant.3
-    ∙ any-chunk (met c.args.values.now) cl _ c.loop-from.from c.copy-literals-n.result
-    (chunk-is cl c.loop-from.buffer c.copy-literals-n.new.out c.loop-from.from c.copy-literals-n.result (omega arith) after)
+    ∙ any_chunk (met c.args.values.now) cl _ c.loop-from.from c.copy-literals-n.result
+    (chunk_is cl c.loop-from.buffer c.copy-literals-n.new.out c.loop-from.from c.copy-literals-n.result (omega arith) after)
     ∙ ap (λ b. b || any (met c.args.values.now) (drop (c.loop-from.from + c.copy-literals-n.result) cl)) (sym c.any-met.ensures)
 
 pub returns-then-any-met : goal.returns-then-any-met

@@ -1,7 +1,7 @@
 use Rattle.std.proofs.Common.{rules}
 use Rattle.sheet.specs.View.{view}
 use Rattle.std.proofs.lemmas.Bool.Decides.{when_true}
-use Rattle.judge.proofs.RightAnswer.{answer-right}
+use Rattle.judge.proofs.RightAnswer.{answer_right}
 use Rattle.judge.proofs.verdict.judge_valves.Goals as goal
 
 pub returns : goal.returns
@@ -11,7 +11,7 @@ returns c =
       lists = c.judge-marked.ensures.lists;
       nodes-lent = search rules;
       pipes-lent = search rules;
-      right = answer-right (view c.args.sheet.now) c.args.values.now c.args.sheet.now.pipes_join _ _ _
+      right = answer_right (view c.args.sheet.now) c.args.values.now c.args.sheet.now.pipes_join _ _ _
           c.judge-marked.ensures.answer (λ h. (when_true _ _ h c.judge-marked.ensures.lists.nodes).entries_are)
           (λ h. (when_true _ _ h c.judge-marked.ensures.lists.pipes).entries_are);
       marks = search rules;

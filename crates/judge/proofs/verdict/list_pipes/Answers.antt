@@ -3,7 +3,7 @@ use Rattle.sheet.specs.View.{view}
 use Rattle.std.proofs.lemmas.List.{length-set}
 use Rattle.std.proofs.lemmas.Bool.{le-ltb, lt-ltb}
 use Rattle.judge.specs.Verdict.{after, ring_pipes}
-use Rattle.judge.proofs.RingPipes.{pipes-all, pipes-more, ring-pipe-is}
+use Rattle.judge.proofs.RingPipes.{pipes_all, pipes_more, ring_pipe_is}
 use Rattle.judge.proofs.verdict.list_pipes.Goals as goal
 use Rattle.judge.proofs.verdict.list_pipes.Goals.{else-k-ring, then-k-ring}
 
@@ -16,13 +16,13 @@ loop-k-preserved c =
       | else-k-ring w ↦ let t = le-ltb _ _ w.if-k-ring.false in rw t w.to-is
     ] in (
       length-set c.loop-k.pipes _ _ ∙ c.loop-k.invariant.0,
-      pipes-more _ c.loop-k.pipes c.loop-k.k _ (omega (arith, c.loop-k.invariant.0, c.requires))
-          (ring-pipe-is (view c.args.sheet.now).pipe ns c.loop-k.k _ _ _ refl to_is
+      pipes_more _ c.loop-k.pipes c.loop-k.k _ (omega (arith, c.loop-k.invariant.0, c.requires))
+          (ring_pipe_is (view c.args.sheet.now).pipe ns c.loop-k.k _ _ _ refl to_is
           (c.unwrap-or-valve.ensures ∙ ap (λ o. unwrap_or o 0) c.valve.ensures))
           c.loop-k.invariant.1,
     )
 
 pub returns : goal.returns
 returns c =
-    pipes-all (view c.args.sheet.now).pipe c.args.ring.now c.loop-k.pipes c.loop-k.k (omega arith)
+    pipes_all (view c.args.sheet.now).pipe c.args.ring.now c.loop-k.pipes c.loop-k.k (omega arith)
     c.loop-k.invariant.1

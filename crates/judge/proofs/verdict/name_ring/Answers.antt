@@ -7,28 +7,28 @@ use Rattle.judge.specs.Values.{opens}
 use Rattle.judge.specs.Verdict.{ring_pipes}
 use Rattle.judge.specs.Walking.{ring_among}
 use Rattle.judge.proofs.RingPipes.{front_few, front_is}
-use Rattle.judge.proofs.Walks.{ring-lies-few}
+use Rattle.judge.proofs.Walks.{ring_lies_few}
 use Rattle.judge.proofs.verdict.name_ring.Goals as goal
 
 pub list-pipes-requires : goal.list-pipes-requires
 list-pipes-requires c =
-    let few = ring-lies-few _ _ _ _ _ _ c.find-ring-from.ensures in
+    let few = ring_lies_few _ _ _ _ _ _ c.find-ring-from.ensures in
     omega (arith, c.nodes-n.ensures, c.args.flow.now.sheet.now.nodes_few)
 
 pub refill-requires : goal.refill-requires
 refill-requires c =
-    let few = ring-lies-few _ _ _ _ _ _ c.find-ring-from.ensures in omega (arith, c.nodes-n.ensures, c.requires)
+    let few = ring_lies_few _ _ _ _ _ _ c.find-ring-from.ensures in omega (arith, c.nodes-n.ensures, c.requires)
 
 pub slice-bounds-refill-end : goal.slice-bounds-refill-end
 slice-bounds-refill-end c =
-    let few = ring-lies-few _ _ _ _ _ _ c.find-ring-from.ensures in
+    let few = ring_lies_few _ _ _ _ _ _ c.find-ring-from.ensures in
     let low = c.args.flow.now.sheet.now.nodes_few in
     let n = c.nodes-n.ensures in
     let l = c.list-pipes.array_long in search rules
 
 pub refill-requires-2 : goal.refill-requires-2
 refill-requires-2 c =
-    let few = ring-lies-few _ _ _ _ _ _ c.find-ring-from.ensures in
+    let few = ring_lies_few _ _ _ _ _ _ c.find-ring-from.ensures in
     let ring = take (c.find-ring-from.result.1 - c.find-ring-from.result.0) (drop c.find-ring-from.result.0 c.find-ring-from.new.path) in
     let front = front_few (length ring) c.list-pipes.new.pipes in omega (arith, c.nodes-n.ensures, c.requires)
 

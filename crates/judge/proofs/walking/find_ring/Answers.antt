@@ -1,4 +1,4 @@
-use Rattle.judge.proofs.Walks.{lowest_within, turned-lies}
+use Rattle.judge.proofs.Walks.{lowest_within, turned_lies}
 use Rattle.judge.proofs.walking.find_ring.Goals as goal
 
 pub rotate-left-requires : goal.rotate-left-requires
@@ -6,5 +6,5 @@ rotate-left-requires g c = lowest_within _ _ c.lowest-place-low.ensures
 
 pub returns : goal.returns
 returns g c =
-    turned-lies _ _ _ _ _ _ c.walk-from.ensures c.lowest-place-low.ensures c.rotate-left.ensures.after
+    turned_lies _ _ _ _ _ _ c.walk-from.ensures c.lowest-place-low.ensures c.rotate-left.ensures.after
     c.rotate-left.ensures.len

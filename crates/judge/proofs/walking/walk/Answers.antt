@@ -1,11 +1,11 @@
 use Rattle.std.proofs.Common.{ap, ◌∙◌, arith, rules}
 use Rattle.graph.specs.Counts.{place}
 use Rattle.std.proofs.lemmas.Slice.{between_to_end}
-use Rattle.judge.proofs.Walks.{walk_found, walk_none, walking_more, walking-none}
+use Rattle.judge.proofs.Walks.{walk_found, walk_none, walking_more, walking_none}
 use Rattle.judge.proofs.walking.walk.Goals as goal
 
 pub loop-step-init : goal.loop-step-init
-loop-step-init g c = walking-none _ _ _ _ _ c.told-path c.first-unmarked.ensures
+loop-step-init g c = walking_none _ _ _ _ _ c.told-path c.first-unmarked.ensures
 
 pub returns-then-at-head : goal.returns-then-at-head
 returns-then-at-head g c =

@@ -8,8 +8,8 @@ use Rattle.sheet.specs.Tables.{table}
 use Rattle.sheet.specs.View.{arcs_of, view}
 use Rattle.sheet.specs.declared.implications.Plan.{Plan}
 use Rattle.sheet.specs.declared.implications.Planned.{Planned}
-use Rattle.sheet.proofs.Facts.{below-planned}
-use Rattle.sheet.proofs.Plans.{implications-are}
+use Rattle.sheet.proofs.Facts.{below_planned}
+use Rattle.sheet.proofs.Plans.{implications_are}
 use Rattle.sheet.proofs.Told.{clause_at}
 use Rattle.sheet.proofs.implications.write_planned.Given as given
 use Rattle.sheet.proofs.implications.write_planned.Goals as goal
@@ -21,7 +21,7 @@ invariant-of-planned g c =
     let e = c.new-plan.ensures in (
       e.count,
       (
-        λ u w. let b = below-planned _ s.nodes (arcs_of (view s)) s.arcs_below (plan_arcs c.new-plan.result) e.arcs u w in
+        λ u w. let b = below_planned _ s.nodes (arcs_of (view s)) s.arcs_below (plan_arcs c.new-plan.result) e.arcs u w in
             omega (arith, e.next, s.next_few),
         tt,
       ),
@@ -34,7 +34,7 @@ clauses-are
     ≡ implications (g.R.Rule.premises c.args.rule) c.args.sheet.now.nodes (arcs_of (view c.args.sheet.now))
 clauses-are g c =
     let e = c.new-plan.ensures in
-    implications-are (g.R.Rule.premises c.args.rule) c.args.sheet.now.nodes (arcs_of (view c.args.sheet.now))
+    implications_are (g.R.Rule.premises c.args.rule) c.args.sheet.now.nodes (arcs_of (view c.args.sheet.now))
     (plan_pairs c.new-plan.result) (plan_arcs c.new-plan.result) e.pairs e.arcs
 
 pub returns-in-err-write-all : goal.returns-in-err-write-all

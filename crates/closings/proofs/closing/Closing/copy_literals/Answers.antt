@@ -1,5 +1,5 @@
 use Rattle.std.proofs.Common.{◌≡◌, ◌+◌, ◌-◌, ◌<◌, min, List, [], length, get_or, pos, unwrap_or, ap, ◌∙◌, arith, w32, SFits, rules}
-use Rattle.cnf.proofs.Copies.{Copied-all, Copied-more, length_or_zero, value_at}
+use Rattle.cnf.proofs.Copies.{copied_all, copied_more, length_or_zero, value_at}
 use Rattle.cnf.specs.Clauses.{Clause}
 use Rattle.std.proofs.lemmas.Int.{to_z-of_z}
 use Rattle.closings.specs.Inputs.{input}
@@ -29,7 +29,7 @@ loop-i-preserved g c =
     let fits : SFits w32 c.unwrap-or-in-loop-i.result = search rules in
     let is = to_z-of_z w32 _ fits ∙ c.unwrap-or-in-loop-i.ensures ∙ ap (λ o. unwrap_or o (pos 0)) c.literal.ensures
     ∙ value_at cl _ (pos 0) _ within in
-    Copied-more cl c.args.out.now c.loop-i.out c.args.from c.loop-i.i _ (omega arith)
+    copied_more cl c.args.out.now c.loop-i.out c.args.from c.loop-i.i _ (omega arith)
     (omega (arith, c.min-n.ensures, c.loop-i-test.true)) c.loop-i.invariant is
 
 pub returns : goal.returns
@@ -38,5 +38,5 @@ returns g c =
     let count = count_is g (goal.at.returns g c).After-min-n in
     record {
       value = c.min-n.ensures ∙ ap (λ n. min n (length c.args.out.now)) count;
-      after = Copied-all _ c.args.out.now c.loop-i.out c.args.from c.loop-i.i _ (omega arith) c.loop-i.invariant;
+      after = copied_all _ c.args.out.now c.loop-i.out c.args.from c.loop-i.i _ (omega arith) c.loop-i.invariant;
     }

@@ -6,7 +6,7 @@ use Rattle.closings.specs.Inputs.{arc_at, input}
 use Rattle.closings.specs.declared.arc.Arc.{Arc}
 use Rattle.closings.specs.ArcFacts.{arc_is, count_is}
 use Rattle.closings.specs.RangesLemmas.{told_none}
-use Rattle.closings.proofs.Signs.{passed_minus, passed_pos, told_one, told-three, told-two}
+use Rattle.closings.proofs.Signs.{passed_minus, passed_pos, told_one, told_three, told_two}
 use Rattle.closings.proofs.closure.ClosureClosing.literal.Goals as goal
 
 pub returns-in-NeverItself : goal.returns-in-NeverItself
@@ -23,7 +23,7 @@ returns-in-Transitive c =
     let i = c.in-Transitive.i in
     let m = c.in-Transitive.m in
     let t = c.in-Transitive.t in
-    told-three (closure_clauses x) c.args.k c.args.j c.of-three.result
+    told_three (closure_clauses x) c.args.k c.args.j c.of-three.result
     (minus (closure_y x i m)) _ (minus (closure_y x m t)) _ (pos (closure_y x i t)) _
     c.in-Transitive.ensures.is c.of-three.ensures
     (passed_minus _ _ _ c.negative-in-Transitive.type-inv c.negative-in-Transitive.ensures
@@ -39,7 +39,7 @@ returns-in-ArcBefore c =
     let l : c.in-ArcBefore.a < c.args.x.now.count =
     omega (arith, c.in-ArcBefore.ensures.within, count_is c.args.x.now) in
     let same = sym (arc_is c.args.x.now c.in-ArcBefore.a l) in
-    told-two (closure_clauses x) c.args.k c.args.j c.of-two.result
+    told_two (closure_clauses x) c.args.k c.args.j c.of-two.result
     (minus a.variable) _ (pos (closure_y x a.from a.to)) _
     c.in-ArcBefore.ensures.is c.of-two.ensures
     (passed_minus _ _ _ c.negative-in-ArcBefore.type-inv c.negative-in-ArcBefore.ensures

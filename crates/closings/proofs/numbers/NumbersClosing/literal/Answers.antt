@@ -4,7 +4,7 @@ use Rattle.closings.specs.Inputs.{Input, arc_at, input}
 use Rattle.closings.specs.NumbersClauses.{bits_for, numbers_clauses, numbers_t, numbers_y}
 use Rattle.closings.specs.declared.arc.Arc.{Arc}
 use Rattle.closings.specs.RangesLemmas.{told_none}
-use Rattle.closings.proofs.Signs.{passed_minus, passed_pos, told-three, told-two}
+use Rattle.closings.proofs.Signs.{passed_minus, passed_pos, told_three, told_two}
 use Rattle.closings.proofs.numbers.NumbersClosing.literal.Goals as goal
 
 -- the bit of an end of the arc that was read
@@ -19,7 +19,7 @@ pub returns-in-LowLeaves : goal.returns-in-LowLeaves
 returns-in-LowLeaves c =
     let x = input c.args.x.now in
     let a = c.in-LowLeaves.a in
-    told-two (numbers_clauses x) c.args.k c.args.j c.of-two.result
+    told_two (numbers_clauses x) c.args.k c.args.j c.of-two.result
     (minus (numbers_t x a 1)) _ (minus (numbers_y x (arc_at x a).from 1)) _
     c.in-LowLeaves.ensures.is c.of-two.ensures
     (passed_minus _ _ _ c.negative.type-inv c.negative.ensures c.rise.ensures.is)
@@ -30,7 +30,7 @@ pub returns-in-LowEnters : goal.returns-in-LowEnters
 returns-in-LowEnters c =
     let x = input c.args.x.now in
     let a = c.in-LowEnters.a in
-    told-two (numbers_clauses x) c.args.k c.args.j c.of-two-in-LowEnters.result
+    told_two (numbers_clauses x) c.args.k c.args.j c.of-two-in-LowEnters.result
     (minus (numbers_t x a 1)) _ (pos (numbers_y x (arc_at x a).to 1)) _
     c.in-LowEnters.ensures.is c.of-two-in-LowEnters.ensures
     (passed_minus _ _ _ c.negative-in-LowEnters.type-inv c.negative-in-LowEnters.ensures
@@ -43,7 +43,7 @@ returns-in-BitRises c =
     let x = input c.args.x.now in
     let a = c.in-BitRises.a in
     let k = c.in-BitRises.bit in
-    told-three (numbers_clauses x) c.args.k c.args.j c.of-three.result
+    told_three (numbers_clauses x) c.args.k c.args.j c.of-three.result
     (minus (numbers_t x a k)) _ (minus (numbers_y x (arc_at x a).from k)) _ (pos (numbers_y x (arc_at x a).to k)) _
     c.in-BitRises.ensures.is c.of-three.ensures
     (passed_minus _ _ _ c.negative-in-BitRises.type-inv c.negative-in-BitRises.ensures
@@ -58,7 +58,7 @@ returns-in-RestLeaves c =
     let x = input c.args.x.now in
     let a = c.in-RestLeaves.a in
     let k = c.in-RestLeaves.bit in
-    told-three (numbers_clauses x) c.args.k c.args.j c.of-three-in-RestLeaves.result
+    told_three (numbers_clauses x) c.args.k c.args.j c.of-three-in-RestLeaves.result
     (minus (numbers_t x a k)) _ (minus (numbers_y x (arc_at x a).from k)) _ (pos (numbers_t x a (k - 1))) _
     c.in-RestLeaves.ensures.is c.of-three-in-RestLeaves.ensures
     (passed_minus _ _ _ c.negative-in-RestLeaves.type-inv c.negative-in-RestLeaves.ensures
@@ -73,7 +73,7 @@ returns-in-RestEnters c =
     let x = input c.args.x.now in
     let a = c.in-RestEnters.a in
     let k = c.in-RestEnters.bit in
-    told-three (numbers_clauses x) c.args.k c.args.j c.of-three-in-RestEnters.result
+    told_three (numbers_clauses x) c.args.k c.args.j c.of-three-in-RestEnters.result
     (minus (numbers_t x a k)) _ (pos (numbers_y x (arc_at x a).to k)) _ (pos (numbers_t x a (k - 1))) _
     c.in-RestEnters.ensures.is c.of-three-in-RestEnters.ensures
     (passed_minus _ _ _ c.negative-in-RestEnters.type-inv c.negative-in-RestEnters.ensures
@@ -87,7 +87,7 @@ pub returns-in-AllRise : goal.returns-in-AllRise
 returns-in-AllRise c =
     let x = input c.args.x.now in
     let a = c.in-AllRise.a in
-    told-two (numbers_clauses x) c.args.k c.args.j c.of-two-in-AllRise.result
+    told_two (numbers_clauses x) c.args.k c.args.j c.of-two-in-AllRise.result
     (minus (arc_at x a).variable) _ (pos (numbers_t x a (bits_for x.nodes))) _
     c.in-AllRise.ensures.is c.of-two-in-AllRise.ensures
     (passed_minus _ _ _ c.negative-in-AllRise.type-inv c.negative-in-AllRise.ensures

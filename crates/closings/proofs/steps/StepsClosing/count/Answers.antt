@@ -1,10 +1,10 @@
 -- How many clauses there are.
 use Rattle.std.proofs.Common.{sym}
 use Rattle.closings.specs.Inputs.{input}
-use Rattle.closings.specs.StepsListing.{length-steps}
+use Rattle.closings.specs.StepsListing.{length_steps}
 use Rattle.closings.proofs.steps.StepsClosing.count.Goals as goal
 
 pub returns : goal.returns
 returns c =
     rw (c.step-count-steps.ensures, c.saturating-sub-row.ensures, c.arc-count.ensures.is)
-    (sym (length-steps (input c.args.x.now)))
+    (sym (length_steps (input c.args.x.now)))

@@ -5,7 +5,7 @@ use Rattle.closings.specs.Grids.{node_variable}
 use Rattle.closings.specs.Inputs.{arc_at, input}
 use Rattle.closings.specs.StepsClauses.{steps_clauses, steps_s, steps_y}
 use Rattle.closings.specs.RangesLemmas.{told, told_none}
-use Rattle.closings.proofs.Signs.{passed_minus, passed_pos, told-two}
+use Rattle.closings.proofs.Signs.{passed_minus, passed_pos, told_two}
 use Rattle.closings.specs.StepsListing.{arc_read}
 use Rattle.closings.proofs.steps.StepsClosing.literal.Goals as goal
 
@@ -14,7 +14,7 @@ returns-in-Rises c =
     let x = input c.args.x.now in
     let i = c.in-Rises.i in
     let t = c.in-Rises.t in
-    told-two (steps_clauses x) c.args.k c.args.j c.of-two.result
+    told_two (steps_clauses x) c.args.k c.args.j c.of-two.result
     (minus (steps_y x i (t - 1))) _ (pos (steps_y x i t)) _ c.in-Rises.ensures.is c.of-two.ensures
     (passed_minus c.negative.result c.node-variable-before.result (steps_y x i (t - 1)) c.negative.type-inv
     c.negative.ensures c.node-variable-before.ensures.is)
@@ -28,7 +28,7 @@ returns-in-Leaves c =
     let t = c.in-Leaves.t in
     let e = ap (λ b. node_variable x (x.nodes - 1) b.from t)
     (arc_read c.args.x.now a c.in-Leaves.ensures.within.0) in
-    told-two (steps_clauses x) c.args.k c.args.j c.of-two-in-Leaves.result
+    told_two (steps_clauses x) c.args.k c.args.j c.of-two-in-Leaves.result
     (minus (steps_y x (arc_at x a).from t)) _ (minus (steps_s x a t)) _ c.in-Leaves.ensures.is
     c.of-two-in-Leaves.ensures
     (passed_minus c.negative-in-Leaves.result c.node-variable-label.result (steps_y x (arc_at x a).from t)
@@ -43,7 +43,7 @@ returns-in-Enters c =
     let t = c.in-Enters.t in
     let e = ap (λ b. node_variable x (x.nodes - 1) b.to t)
     (arc_read c.args.x.now a c.in-Enters.ensures.within.0) in
-    told-two (steps_clauses x) c.args.k c.args.j c.of-two-in-Enters.result
+    told_two (steps_clauses x) c.args.k c.args.j c.of-two-in-Enters.result
     (pos (steps_y x (arc_at x a).to t)) _ (minus (steps_s x a t)) _ c.in-Enters.ensures.is
     c.of-two-in-Enters.ensures
     (passed_pos c.positive-in-Enters.result c.node-variable-label-in-Enters.result (steps_y x (arc_at x a).to t)

@@ -1,7 +1,7 @@
 use Rattle.std.proofs.Common.{◌≡◌, ◌+◌, ◌-◌, ◌<◌, min, [], ◌++◌, length, get_or, take, drop, pos, unwrap_or, ap, ◌∙◌, arith, w32, SFits, rules}
 use Rattle.bounded.specs.Lists.{nth}
 use Rattle.std.proofs.lemmas.Int.{to_z-of_z}
-use Rattle.cnf.proofs.Copies.{Copied-all, Copied-more, length_or_zero, value_at}
+use Rattle.cnf.proofs.Copies.{copied_all, copied_more, length_or_zero, value_at}
 use Rattle.cnf.proofs.formula.Formula.copy_literals.Given as given
 use Rattle.cnf.proofs.formula.Formula.copy_literals.Goals as goal
 use Rattle.cnf.proofs.formula.Formula.copy_literals.Goals.{After-min-n}
@@ -26,7 +26,7 @@ loop-i-preserved g c =
     let told = c.literal.ensures.value ∙ ap (λ s. nth (get_or (g.Self.Formula.clauses s) c.args.k []) (c.args.from + c.loop-i.i)) c.loop-i.invariant.0 in
     let is = to_z-of_z w32 _ fits ∙ c.unwrap-or-in-loop-i.ensures ∙ ap (λ o. unwrap_or o (pos 0)) told ∙ value_at cl _ (pos 0) _ within in (
       c.literal.ensures.same ∙ c.loop-i.invariant.0,
-      Copied-more cl c.args.out.now c.loop-i.out c.args.from c.loop-i.i _ (omega arith)
+      copied_more cl c.args.out.now c.loop-i.out c.args.from c.loop-i.i _ (omega arith)
           (omega (arith, c.min-n.ensures, c.loop-i-test.true)) c.loop-i.invariant.1 is,
     )
 
@@ -36,7 +36,7 @@ returns g c =
     let cs = ap (λ s. get_or (g.Self.Formula.clauses s) c.args.k []) c.length.ensures.same in
     record {
       value = c.min-n.ensures ∙ ap (λ n. min n (length c.args.out.now)) count;
-      after = Copied-all _ c.args.out.now c.loop-i.out c.args.from c.loop-i.i _ (omega arith)
+      after = copied_all _ c.args.out.now c.loop-i.out c.args.from c.loop-i.i _ (omega arith)
           (c.loop-i.invariant.1 ∙ ap (λ cl. take c.loop-i.i (drop c.args.from cl) ++ drop c.loop-i.i c.args.out.now) cs);
       same = c.loop-i.invariant.0 ∙ c.length.ensures.same;
     }

@@ -2,7 +2,7 @@ use Rattle.std.proofs.Common.{sym, ap, ◌∙◌}
 use Rattle.graph.proofs.Counts.{least_more, least_zero}
 use Rattle.judge.specs.Values.{first_unknown}
 use Rattle.sheet.specs.View.{view}
-use Rattle.judge.proofs.Unknown.{unknown-found, unknown_none, untold}
+use Rattle.judge.proofs.Unknown.{unknown_found, unknown_none, untold}
 use Rattle.judge.proofs.open.OpenPipes.first_unknown.Goals as goal
 
 pub loop-i-init : goal.loop-i-init
@@ -15,7 +15,7 @@ pub returns-in-Some : goal.returns-in-Some
 returns-in-Some c =
     let pipe = (view c.args.self.now.sheet.now).pipe in
     let values = c.args.self.now.values.now in
-    unknown-found _ pipe values _ c.loop-i.invariant _ c.loop-i-test.true c.in-Some.ensures
+    unknown_found _ pipe values _ c.loop-i.invariant _ c.loop-i-test.true c.in-Some.ensures
     ∙ ap (λ n. first_unknown n pipe values) c.nodes-n.ensures
 
 pub returns : goal.returns

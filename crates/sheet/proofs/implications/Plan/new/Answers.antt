@@ -3,7 +3,7 @@ use Rattle.sheet.specs.Implications.{Arcs, are_there, has_premises, pair_at, wit
 use Rattle.sheet.specs.Plans.{plan_arcs, plan_pairs}
 use Rattle.sheet.specs.Tables.{table}
 use Rattle.sheet.specs.declared.implications.Plan.{Plan}
-use Rattle.sheet.proofs.Plans.{arcs-noted, done_all, done_noted, done_past, few_pairs, pair_below, planned_is}
+use Rattle.sheet.proofs.Plans.{arcs_noted, done_all, done_noted, done_past, few_pairs, pair_below, planned_is}
 use Rattle.sheet.proofs.implications.Plan.new.Goals as goal
 use Rattle.sheet.proofs.implications.Plan.new.Goals.{else-is-there, then-is-there}
 
@@ -30,7 +30,7 @@ loop-i-preserved g c =
           let there = is ∙ sym x.if-is-there.ensures in
           let e = x.visit.ensures in (
             ap plan_pairs x.plan-is ∙ e.pairs ∙ ap (λ qs. qs ++ (pair_at n i ∷ [])) inv.0 ∙ done_noted ps n i there,
-            ap plan_arcs x.plan-is ∙ e.arcs ∙ ap (λ (l : Arcs). with_arc l (pair_at n i)) inv.1 ∙ arcs-noted ps n i k there,
+            ap plan_arcs x.plan-is ∙ e.arcs ∙ ap (λ (l : Arcs). with_arc l (pair_at n i)) inv.1 ∙ arcs_noted ps n i k there,
             omega (arith, ap (λ (p : Plan). p.count) x.plan-is, e.count.0, inv.2),
             omega (arith, ap (λ (p : Plan). p.next) x.plan-is, e.next, inv.3),
             subst (λ (p : Plan). p.count ≤ length p.pairs) (sym x.plan-is) e.count.1,

@@ -1,5 +1,5 @@
 use Rattle.std.proofs.Common.{◌≡◌, length, take, sym, arith, length-take, rules}
-use Rattle.bounded.proofs.Entries.{nth-front, nth_past}
+use Rattle.bounded.proofs.Entries.{nth_front, nth_past}
 use Rattle.sheet.proofs.implications.Plan.pair.Goals as goal
 
 pub returns-then-k-self : goal.returns-then-k-self
@@ -10,4 +10,4 @@ returns-then-k-self c =
 pub returns : goal.returns
 returns c =
     let s = c.args.self.now in
-    nth-front s.pairs s.count c.args.k _ (omega arith) (omega arith) (search rules)
+    nth_front s.pairs s.count c.args.k _ (omega arith) (omega arith) (search rules)

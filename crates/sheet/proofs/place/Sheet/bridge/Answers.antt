@@ -6,8 +6,8 @@ use Rattle.sheet.specs.Phases.{is_fresh}
 use Rattle.sheet.specs.Plans.{plan_arcs}
 use Rattle.sheet.specs.Tables.{Table, table}
 use Rattle.sheet.specs.View.{arcs_of, view}
-use Rattle.sheet.proofs.Counts.{count-staying}
-use Rattle.sheet.proofs.Facts.{Fit, fit-keeps, fit_of, fit-planned, fit-without}
+use Rattle.sheet.proofs.Counts.{count_staying}
+use Rattle.sheet.proofs.Facts.{Fit, fit_keeps, fit_of, fit_planned, fit_without}
 use Rattle.sheet.proofs.place.Sheet.bridge.Goals as goal
 
 pub invariant-of-self : goal.invariant-of-self
@@ -15,7 +15,7 @@ invariant-of-self g c =
     let s = c.args.self.now in
     let v = c.args.node in
     let e = c.in-ok-plan.ensures in
-    let fit = fit-planned s.nodes s.valves s.out (way_through (view s).arc v) (arcs_of (view s))
+    let fit = fit_planned s.nodes s.valves s.out (way_through (view s).arc v) (arcs_of (view s))
     (λ u w t.
     let p = and_parts _ _ t in
     let into = ltb-true 0 ((view s).arc u v) p.0 in
@@ -29,10 +29,10 @@ invariant-of-self g c =
     (fit_of s) in
     let planned : Fit s.nodes s.valves s.out (plan_arcs c.in-ok-plan.plan) =
     subst (λ (k : Arcs). Fit s.nodes s.valves s.out k) (sym e.arcs) fit in
-    let left = fit-without s.nodes s.valves s.out v (plan_arcs c.in-ok-plan.plan) planned in
+    let left = fit_without s.nodes s.valves s.out v (plan_arcs c.in-ok-plan.plan) planned in
     let n : length s.out ≡ 64 = search rules in
-    let few = count-staying s.out v n (omega arith) c.if-self-node.false in
-    fit-keeps s s.phase (set s.out v true) (record { arc = table c.clear-node.new.arcs; next = c.in-ok-plan.plan.next })
+    let few = count_staying s.out v n (omega arith) c.if-self-node.false in
+    fit_keeps s s.phase (set s.out v true) (record { arc = table c.clear-node.new.arcs; next = c.in-ok-plan.plan.next })
     (subst (λ (t : Table). Fit s.nodes s.valves (set s.out v true) (record { arc = t; next = c.in-ok-plan.plan.next })) (sym c.clear-node.ensures) left)
     (λ t. subst (λ f. T (is_fresh f)) c.in-Closing.is t)
     (omega (arith, few, e.next, s.next_few))

@@ -1,5 +1,5 @@
 use Rattle.std.proofs.Common.{◌≡◌, ◌+◌, cond, ltb, arith}
-use Rattle.sheet.proofs.Degrees.{arcs_all, arcs-more, arcs_none, counted}
+use Rattle.sheet.proofs.Degrees.{arcs_all, arcs_more, arcs_none, counted}
 use Rattle.sheet.proofs.place.Sheet.degree.Goals as goal
 use Rattle.sheet.proofs.place.Sheet.degree.Goals.{else-is-some, else-is-some-2, then-is-some, then-is-some-2}
 use Rattle.sheet.specs.Tables.{table}
@@ -21,7 +21,7 @@ loop-w-preserved c =
       | else-is-some-2 w ↦
           counted _ _ _ _ _ c.arc-in-loop-w.ensures w.if-is-some-2.ensures (omega (arith, w.degree-is))
     ] in
-    (arcs-more _ _ _ _ _ _ c.loop-w.invariant.0 x y, grind (arith, x, y, c.loop-w.invariant.1))
+    (arcs_more _ _ _ _ _ _ c.loop-w.invariant.0 x y, grind (arith, x, y, c.loop-w.invariant.1))
 
 pub returns : goal.returns
 returns c = arcs_all _ _ _ _ _ c.loop-w.auto.w-end c.loop-w-test.false c.loop-w.invariant.0

@@ -1,8 +1,8 @@
 use Rattle.std.proofs.Common.{◌≡◌, ◌<◌, length, sym, refl, ◌∙◌, subst, arith, rules}
 use Rattle.sheet.specs.Tables.{Joins, Table, Upto, put, table}
 use Rattle.sheet.specs.View.{view}
-use Rattle.sheet.proofs.Drawn.{drawable, drawn-view}
-use Rattle.sheet.proofs.Tables.{joins_put, table-set, upto_put}
+use Rattle.sheet.proofs.Drawn.{drawable, drawn_view}
+use Rattle.sheet.proofs.Tables.{joins_put, table_set, upto_put}
 use Rattle.sheet.proofs.place.Sheet.draw.Goals as goal
 
 pub invariant-of-self : goal.invariant-of-self
@@ -11,7 +11,7 @@ invariant-of-self c =
     let p = c.args.pipe in
     let d = drawable (view s) _ p (sym c.in-None.ensures) in
     let l : length s.pipes ≡ 4096 = search rules in
-    let e = table-set s.pipes p.from p.to p.valve l (omega (arith, s.nodes_few, d.from)) (omega (arith, s.nodes_few, d.to)) in (
+    let e = table_set s.pipes p.from p.to p.valve l (omega (arith, s.nodes_few, d.from)) (omega (arith, s.nodes_few, d.to)) in (
       s.nodes_few,
       (
         s.valves_few,
@@ -50,5 +50,5 @@ returns-in-None c =
     let fits = sym c.in-None.ensures in
     let d = drawable (view s) _ p fits in
     let l : length s.pipes ≡ 4096 = search rules in
-    let e = table-set s.pipes p.from p.to p.valve l (omega (arith, s.nodes_few, d.from)) (omega (arith, s.nodes_few, d.to)) in
-    record { answer = sym fits; after = drawn-view (view s) _ p _ e fits; token = refl; same = tt }
+    let e = table_set s.pipes p.from p.to p.valve l (omega (arith, s.nodes_few, d.from)) (omega (arith, s.nodes_few, d.to)) in
+    record { answer = sym fits; after = drawn_view (view s) _ p _ e fits; token = refl; same = tt }

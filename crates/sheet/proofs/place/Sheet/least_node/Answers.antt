@@ -1,5 +1,5 @@
 use Rattle.std.proofs.Common.{◌≡◌, sym, ap, ◌∙◌}
-use Rattle.sheet.proofs.Degrees.{least-among-all, least_among_more, least_among_zero, least_right}
+use Rattle.sheet.proofs.Degrees.{least_among_all, least_among_more, least_among_zero, least_right}
 use Rattle.sheet.proofs.place.Sheet.least_node.Goals as goal
 use Rattle.sheet.specs.Least.{better, least_node}
 use Rattle.sheet.specs.View.{view}
@@ -15,5 +15,5 @@ loop-u-preserved c =
 pub returns : goal.returns
 returns c =
     let v : c.loop-u.least ≡ least_node (view c.args.self.now) =
-    least-among-all _ _ _ c.loop-u.auto.u-end c.loop-u-test.false c.loop-u.invariant in
+    least_among_all _ _ _ c.loop-u.auto.u-end c.loop-u-test.false c.loop-u.invariant in
     record { value = v; right = least_right _ _ v }

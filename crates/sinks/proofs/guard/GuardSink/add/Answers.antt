@@ -1,7 +1,7 @@
 use Rattle.std.proofs.Common.{◌≡◌, ◌-◌, cond, [], ◌∷◌, ◌++◌, take, is_ok, sym, ap, ◌∙◌, arith}
 use Rattle.cnf.specs.States.{add_refusal, added}
 use Rattle.sinks.specs.Layers.{guarded}
-use Rattle.sinks.proofs.Piles.{guard-after, guard-appended, guard_refusal, refused_weaker}
+use Rattle.sinks.proofs.Piles.{guard_after, guard_appended, guard_refusal, refused_weaker}
 use Rattle.sinks.proofs.guard.GuardSink.add.Goals as goal
 
 pub returns : goal.returns
@@ -20,10 +20,10 @@ returns g c =
           ∙ (λ i. add_refusal (g.S.Sink.state (same i).below) (what i))
           ∙ guard_refusal s.literal st cl fine;
       after = (λ i. guarded (same i).literal (g.S.Sink.state c.add.new.self))
-          ∙ guard-after s.literal st cl fine r _
+          ∙ guard_after s.literal st cl fine r _
           (c.add.ensures.after
           ∙ (λ i. cond r (added (g.S.Sink.state (same i).below) (what i)) (g.S.Sink.state (same i).below)));
-      appended = guard-appended s.literal st cl fine r cs (g.S.Formula.clauses c.add.new.self)
+      appended = guard_appended s.literal st cl fine r cs (g.S.Formula.clauses c.add.new.self)
           (c.add.ensures.appended
           ∙ (λ i. cond r (g.S.Formula.clauses (same i).below ++ (what i ∷ [])) (g.S.Formula.clauses (same i).below)));
       lent = c.add.ensures.lent ∙ ap (λ t. g.S.Sink.names t.below) same;

@@ -1,6 +1,6 @@
 use Rattle.std.proofs.Common.{◌≡◌, ◌-◌, take, is_some, sym, ap, ◌∙◌, arith}
 use Rattle.cnf.specs.States.{form_refusal}
-use Rattle.sinks.proofs.Piles.{guard_cost, guard-form}
+use Rattle.sinks.proofs.Piles.{guard_cost, guard_form}
 use Rattle.sinks.proofs.guard.GuardSink.cost.Goals as goal
 
 pub returns-in-Ok : goal.returns-in-Ok
@@ -19,6 +19,6 @@ returns-in-Ok g c =
       most = c.cost.ensures.most;
       none = c.cost.ensures.none
           ∙ (λ i. let t = g.S.Sink.state (same i).below in is_some (form_refusal t.top t.longest (what i)))
-          ∙ ap is_some (guard-form s.literal st.top st.longest cl fine ∙ sym fine);
+          ∙ ap is_some (guard_form s.literal st.top st.longest cl fine ∙ sym fine);
       same = λ i. record { below = (c.cost.ensures.same ∙ ap (λ t. t.below) same) i; literal = (same i).literal };
     }

@@ -2,7 +2,7 @@ use Rattle.std.proofs.Common.{Some, sym, ap, ◌∙◌, w32, SFits, rules}
 use Rattle.cnf.specs.States.{lowered}
 use Rattle.std.proofs.lemmas.Int.{to_z-of_z}
 use Rattle.std.specs.Option.{option_map}
-use Rattle.sinks.proofs.Piles.{literals-map}
+use Rattle.sinks.proofs.Piles.{literals_map}
 use Rattle.sinks.proofs.offset.OffsetFormula.literal.Goals as goal
 
 pub returns-in-Some : goal.returns-in-Some
@@ -13,7 +13,7 @@ returns-in-Some g c =
     record {
       value = ap Some (to_z-of_z w32 _ f ∙ c.lower.ensures ∙ ap (lowered d) (to_z-of_z w32 _ h))
           ∙ ap (option_map (lowered d)) c.in-Some.ensures.value
-          ∙ sym (literals-map (lowered d) (g.S.Formula.clauses c.args.self.now.below) c.args.k c.args.j);
+          ∙ sym (literals_map (lowered d) (g.S.Formula.clauses c.args.self.now.below) c.args.k c.args.j);
       same = search rules;
     }
 
@@ -22,6 +22,6 @@ returns-in-None g c =
     let d = c.args.self.now.shift in
     record {
       value = ap (option_map (lowered d)) c.in-None.ensures.value
-          ∙ sym (literals-map (lowered d) (g.S.Formula.clauses c.args.self.now.below) c.args.k c.args.j);
+          ∙ sym (literals_map (lowered d) (g.S.Formula.clauses c.args.self.now.below) c.args.k c.args.j);
       same = search rules;
     }

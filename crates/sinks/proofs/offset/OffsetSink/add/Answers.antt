@@ -2,7 +2,7 @@ use Rattle.std.proofs.Common.{◌≡◌, ◌-◌, cond, [], ◌∷◌, ◌++◌,
 use Rattle.cnf.specs.States.{add_refusal, added, lowered}
 use Rattle.std.proofs.lemmas.Result.{err_from_is_err_and}
 use Rattle.sinks.specs.Layers.{shifted}
-use Rattle.sinks.proofs.Piles.{offset-after, offset-appended, offset_refusal, refused-for-form, refused_weaker}
+use Rattle.sinks.proofs.Piles.{offset_after, offset_appended, offset_refusal, refused_for_form, refused_weaker}
 use Rattle.sinks.proofs.offset.OffsetSink.add.Goals as goal
 
 pub returns : goal.returns
@@ -21,11 +21,11 @@ returns g c =
           ∙ (λ i. add_refusal (g.S.Sink.state (same i).below) (what i))
           ∙ offset_refusal s.shift st cl fine;
       after = (λ i. shifted (same i).shift (g.S.Sink.state c.add.new.self))
-          ∙ offset-after s.shift st cl fine r _
+          ∙ offset_after s.shift st cl fine r _
           (c.add.ensures.after
           ∙ (λ i. cond r (added (g.S.Sink.state (same i).below) (what i)) (g.S.Sink.state (same i).below)));
       appended = (λ i. map (map (lowered (same i).shift)) (g.S.Formula.clauses c.add.new.self))
-          ∙ offset-appended s.shift st cl fine r cs (g.S.Formula.clauses c.add.new.self)
+          ∙ offset_appended s.shift st cl fine r cs (g.S.Formula.clauses c.add.new.self)
           (c.add.ensures.appended
           ∙ (λ i. cond r (g.S.Formula.clauses (same i).below ++ (what i ∷ [])) (g.S.Formula.clauses (same i).below)));
       lent = c.add.ensures.lent ∙ ap (λ t. g.S.Sink.names t.below) same;
@@ -40,7 +40,7 @@ returns-in-err-n g c =
     let st = shifted c.args.self.now.shift (g.S.Sink.state c.args.self.now.below) in
     rw (p.1, p.2)
     (record {
-      answer = refused-for-form st c.args.clause.now c.in-err-n.field-0.0 c.in-err-n.ensures.answer;
+      answer = refused_for_form st c.args.clause.now c.in-err-n.field-0.0 c.in-err-n.ensures.answer;
       after = λ i. shifted (same i).shift (g.S.Sink.state (same i).below);
       appended = λ i. map (map (lowered (same i).shift)) (g.S.Formula.clauses (same i).below);
       lent = ap (λ t. g.S.Sink.names t.below) same;

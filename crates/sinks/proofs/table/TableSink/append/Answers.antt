@@ -1,7 +1,7 @@
 use Rattle.std.proofs.Common.{◌≡◌, ℕ, ◌+◌, ◌-◌, ◌<◌, ◌≤◌, min, Bool, true, false, ◌||◌, eqb, ltb, [], ◌∷◌, ◌++◌, length, take, sym, refl, ap, ◌∙◌, arith, rules}
 use Rattle.std.proofs.lemmas.Bool.{eq-eqb, le-ltb, lt-ltb, ne_eqb}
 use Rattle.sinks.specs.Table.{cut, table_state}
-use Rattle.sinks.proofs.Tables.{table_added, table-answer, table_appended}
+use Rattle.sinks.proofs.Tables.{table_added, table_answer, table_appended}
 use Rattle.sinks.proofs.table.TableSink.append.Goals as goal
 use Rattle.sinks.proofs.table.TableSink.append.Goals.{After-left-entries, then-entries-eq0-via-then-entries-eq0, then-entries-eq0-via-else-entries-eq0+then-units-clause}
 
@@ -27,7 +27,7 @@ returns-then-entries-eq0 c =
       | then-entries-eq0-via-else-entries-eq0+then-units-clause w ↦ or-true _ _ (lt-ltb _ _ w.if-units-clause.true)
     ] in
     record {
-      answer = table-answer _ _ _ _ c.args.clause.now true t (tested d true full);
+      answer = table_answer _ _ _ _ c.args.clause.now true t (tested d true full);
       counts = tt;
       literals = tt;
       pairs = tt;
@@ -49,7 +49,7 @@ returns c =
     let room : (eqb c.left-entries.result.0 0 || ltb c.left-entries.result.1 (length cl)) ≡ false =
     ap (λ b. b || ltb c.left-entries.result.1 (length cl)) (ne_eqb _ _ c.if-entries-eq0.false) ∙ le-ltb _ _ c.if-units-clause.false in
     record {
-      answer = table-answer _ _ _ _ cl false t (tested d false room);
+      answer = table_answer _ _ _ _ cl false t (tested d false room);
       counts = e.counts;
       literals = e.literals;
       pairs = e.pairs;
