@@ -1,6 +1,8 @@
 // One list for every kind of entry, in places that its caller lends. It never allocates: a list
 // whose places are used up refuses the entry and gives it back. Each method hands the slice to a
 // function, so that the caller still knows every place of its buffer once the list is gone.
+#![tactic(auto)]
+
 ghost use Rattle.std.specs.Prelude.{◌≡◌, ◌+◌, ◌<◌, ◌≤◌, min, [], ◌∷◌, ◌++◌, length, take, drop, is_ok, IfErr, if◌then◌else◌, Some, MatchResult, nat_le, nat_lt, slice_set};
 ghost use Rattle.bounded.specs.Lists.{entries, nth, room};
 ghost use Rattle.bounded.specs.Refusals.{entry_back, list_number};

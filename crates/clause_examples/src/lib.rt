@@ -1,4 +1,6 @@
 // Worked clauses on their way through layers to tables, and checked against values.
+#![tactic(auto)]
+
 #[cfg(test)]
 mod tests {
     use cnf::formula::Formula;

@@ -1,6 +1,8 @@
 // The clauses of the three closings on many small graphs that a fixed sequence of numbers draws, and
 // on the largest graph. What it must print was worked out by tests/closing_lists.py, straight from
 // the rules and without this library.
+#![tactic(auto)]
+
 use closings::arc::Arc;
 use closings::closing::Closing;
 use closings::named::NamedClosing;

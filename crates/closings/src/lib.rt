@@ -1,5 +1,7 @@
 // Closings: clauses that forbid a ring among the nodes that remain, by added variables of their
 // own. No list of clauses is built: each is found by its number, in constant time.
+#![tactic(auto)]
+
 pub mod arc;
 mod checking;
 pub mod closing;

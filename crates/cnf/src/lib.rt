@@ -1,4 +1,6 @@
 // Clauses, formulas and sinks: what tells clauses, what takes them, and what is done with either.
+#![tactic(auto)]
+
 pub mod form;
 pub mod formula;
 pub mod lent;

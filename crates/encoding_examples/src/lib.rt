@@ -1,4 +1,6 @@
 // Worked sheets, started and eliminated into tables.
+#![tactic(auto)]
+
 #[cfg(test)]
 mod tests {
     use cnf::refusal::SinkRefusal;

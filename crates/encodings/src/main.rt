@@ -1,5 +1,7 @@
 // The clauses of many small sheets that a fixed sequence of numbers draws and eliminates. What it
 // must print was worked out by tests/encodings.py, straight from the rules and without this library.
+#![tactic(auto)]
+
 use cnf::formula::Formula;
 use cnf::sink::Sink;
 use sheet::pipe::Pipe;

@@ -1,4 +1,6 @@
 // Worked sheets and verdicts, and lists at every kind of entry.
+#![tactic(auto)]
+
 ghost use Rattle.bounded.specs.Refusals.{entry_back};
 ghost use Rattle.std.specs.Prelude.{◌≡◌, length, is_ok, IfErr, if◌then◌else◌, nat_lt, slice_set};
 

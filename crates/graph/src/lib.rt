@@ -1,5 +1,7 @@
 // Theorems on directed graphs, each carried by a function whose contract is its statement. The
 // functions do nothing: what they are for is that this crate is accepted only with the proofs.
+#![tactic(auto)]
+
 ghost use Rattle.graph.specs.Elimination.{EliminationLaw};
 ghost use Rattle.graph.specs.Orders.{OrderLaw};
 ghost use Rattle.graph.specs.Ranks.{RankLaw};

@@ -1,5 +1,7 @@
 // Judging measured valves: an order in which to start the nodes, or the ring that the open pipes
 // hold.
+#![tactic(auto)]
+
 mod digraph;
 pub mod independence;
 mod marks;

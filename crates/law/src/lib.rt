@@ -1,5 +1,7 @@
 // Theorems on what sheets write, each carried by a function whose contract is its statement. The
 // functions do nothing: what they are for is that this crate is accepted only with the proofs.
+#![tactic(auto)]
+
 ghost use Rattle.law.specs.ClauseLists.{ClauseLaw, EliminationRight, StartLists};
 ghost use Rattle.law.specs.Encoding.{Encodes, EncodingLaw};
 ghost use Rattle.sheet.specs.Phases.{is_fresh};

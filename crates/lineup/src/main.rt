@@ -2,6 +2,8 @@
 // pump 1, the softwood pump 2, the broke chest 3 and the saveall 4. The pulper 5 feeds both pumps,
 // and the machine chest overflows into the saveall. Each action is printed as it is taken, from what
 // the call answered.
+#![tactic(auto)]
+
 use bounded::Bounded;
 use cnf::formula::Formula;
 use cnf::sink::Sink;

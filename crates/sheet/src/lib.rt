@@ -1,5 +1,7 @@
 // Sheets: nodes, the pipes drawn between them on valves, and the tokens that let their holders
 // go on. Every fact that a sheet always keeps stands in its type.
+#![tactic(auto)]
+
 pub mod drawing;
 pub mod eliminating;
 mod implications;

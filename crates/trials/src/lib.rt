@@ -1,5 +1,7 @@
 // What the programs share that compare many cases with an independent computation: a fixed sequence
 // of numbers, which a second program can draw too, and sheets that are drawn by it.
+#![tactic(auto)]
+
 ghost use Rattle.std.specs.Prelude.{◌≡◌, ℕ, ◌+◌, ◌*◌, ◌/◌, ◌%◌, ◌^◌, if◌then◌else◌, nat_eq};
 ghost use Rattle.sheet.specs.View.{view, with_pipes};
 

@@ -1,5 +1,7 @@
 // Verdicts on many small sheets that a fixed sequence of numbers draws. What it must print was
 // worked out by tests/verdicts.py, straight from the rules and without this library.
+#![tactic(auto)]
+
 use bounded::Bounded;
 use judge::report::Report;
 use judge::verdict::judge_valves;

@@ -1,4 +1,4 @@
-use Rattle.std.proofs.Common.{Some, sym, refl, ap, ◌∙◌, arith}
+use Rattle.std.proofs.Common.{Some, sym, refl, ap, ◌∙◌}
 use Rattle.bounded.proofs.Entries.{nth_at}
 use Rattle.bounded.proofs.overwrite.Goals as goal
 

@@ -5,7 +5,7 @@ use Rattle.bounded.proofs.Bounded.replace.Goals as goal
 
 pub returns : goal.returns
 returns g c =
-    let k = c.in-ok-overwrite.ensures in
+    let k = c.in_ok-overwrite.ensures in
     record {
       test = sym (le-leb _ _ k.0);
       entries = ap (take (length c.args.new.now)) k.1 ∙ take_at _ _ _ refl;

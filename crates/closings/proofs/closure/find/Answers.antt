@@ -27,12 +27,12 @@ returns-then-second-cube c =
       within = (div_below _ _ r q h, div_below _ r r p (mod_below _ _ q), mod_below _ r p);
     }
 
-pub returns-then-third-arc-count : goal.returns-then-third-arc-count
-returns-then-third-arc-count c =
+pub returns-then-third-arc_count : goal.returns-then-third-arc_count
+returns-then-third-arc_count c =
     let x = input c.args.x.now in
     let r = x.nodes in
     let t = c.args.k - r - r * (r * r) in
-    let l : t < arc_count x = omega (arith, c.if-third-arc-count.true, c.arc-count.ensures.is) in
+    let l : t < arc_count x = omega (arith, c.if-third-arc_count.true, c.arc_count.ensures.is) in
     record {
       is = closure_third x c.args.k t (omega (arith, c.if-k-nodes.false, c.if-second-cube.false)) l;
       within = l;
@@ -41,6 +41,6 @@ returns-then-third-arc-count c =
 pub returns : goal.returns
 returns c =
     record {
-      is = closure_past (input c.args.x.now) c.args.k (omega (arith, c.arc-count.ensures.is));
+      is = closure_past (input c.args.x.now) c.args.k (omega (arith, c.arc_count.ensures.is));
       within = tt;
     }

@@ -9,12 +9,12 @@ use Rattle.std.proofs.lemmas.Nat.{mul-le}
 rows_few : (x : Remaining) (a q : ℕ) → a < arc_count (input x) → q < 64 → a * q ≤ 4096 * 64
 rows_few x a q h l = mul-le a q 4096 64 (omega (arith, arcs_4096 (input x) (ready_of x))) (omega arith)
 
-pub overflow-add-result-2 : goal.overflow-add-result-2
-overflow-add-result-2 c =
+pub overflow_add-result-2 : goal.overflow_add-result-2
+overflow_add-result-2 c =
     let p = rows_few c.args.x.now c.args.a c.args.q c.requires.row c.requires.narrow in search rules
 
-pub overflow-add-result-3 : goal.overflow-add-result-3
-overflow-add-result-3 c =
+pub overflow_add-result-3 : goal.overflow_add-result-3
+overflow_add-result-3 c =
     let p = rows_few c.args.x.now c.args.a c.args.q c.requires.row c.requires.narrow in search rules
 
 pub returns : goal.returns

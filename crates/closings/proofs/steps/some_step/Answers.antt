@@ -11,12 +11,12 @@ use Rattle.closings.proofs.steps.some_step.Goals as goal
 pub returns-then-j-eq0 : goal.returns-then-j-eq0
 returns-then-j-eq0 c =
     let e = arc_read c.args.x.now c.args.a c.requires in
-    ap Some (passed_minus c.negative.result _ _ c.negative.type-inv c.negative.ensures (ap (λ a. a.variable) e))
+    ap Some (passed_minus c.negative.result _ _ c.negative.type_inv c.negative.ensures (ap (λ a. a.variable) e))
     ∙ ap (nth (some_step (input c.args.x.now) c.args.a)) (sym c.if-j-eq0.true)
 
 pub returns-then-j-x : goal.returns-then-j-x
 returns-then-j-x c =
-    ap Some (passed_pos c.positive.result _ _ c.positive.type-inv c.positive.ensures c.arc-variable.ensures.is)
+    ap Some (passed_pos c.positive.result _ _ c.positive.type_inv c.positive.ensures c.arc_variable.ensures.is)
     ∙ sym (some_step_literal (input c.args.x.now) c.args.a c.args.j (omega arith) c.if-j-x.true)
 
 pub returns : goal.returns

@@ -10,7 +10,7 @@ tested : (c : goal.After-meets) → met c.args.values.now (get_or c.args.literal
 tested c =
     let f : SFits w32 (get_or c.args.literals.now c.loop-literal.literal-index (pos 0)) = search rules in
     let z = to_z-of_z w32 (get_or c.args.literals.now c.loop-literal.literal-index (pos 0)) f in
-    sym (c.meets.ensures ∙ (λ i. meets_byte (z i) ((c.value-of.ensures ∙ ap (byte_of c.args.values.now) z) i)))
+    sym (c.meets.ensures ∙ (λ i. meets_byte (z i) ((c.value_of.ensures ∙ ap (byte_of c.args.values.now) z) i)))
 
 pub returns-then-meets : goal.returns-then-meets
 returns-then-meets c =

@@ -4,19 +4,19 @@ use Rattle.cnf.specs.Writing.{any}
 use Rattle.cnf.proofs.Unmet.{names_found, names_none, unmet_found, unmet_none}
 use Rattle.cnf.proofs.meeting.first_unmet_clause.Goals as goal
 
-pub returns-then-not-is-met : goal.returns-then-not-is-met
-returns-then-not-is-met g c =
+pub returns-then-not-is_met : goal.returns-then-not-is_met
+returns-then-not-is_met g c =
     let values = c.args.values.now in
     let cs = g.F.Formula.clauses c.args.formula.now in
     let origin = c.count-count.ensures.same in
-    let here = ap (λ s. any (met values) (get_or (g.F.Formula.clauses s) c.loop-k.k [])) (sym (c.loop-k.invariant.0 ∙ origin)) ∙ sym c.is-met.ensures.value ∙ c.if-not-is-met.true in
+    let here = ap (λ s. any (met values) (get_or (g.F.Formula.clauses s) c.loop-k.k [])) (sym (c.loop-k.invariant.0 ∙ origin)) ∙ sym c.is_met.ensures.value ∙ c.if-not-is_met.true in
     let before : (i : ℕ) → i < c.loop-k.k → any (met c.args.values.now) (get_or (g.F.Formula.clauses c.args.formula.now) i []) ≡ true =
     λ i h. ap (λ s. any (met values) (get_or (g.F.Formula.clauses s) i [])) (sym origin) ∙ c.loop-k.invariant.1 i h in
     let l : c.loop-k.k < length (g.F.Formula.clauses c.args.formula.now) = omega (arith, c.loop-k-test.true, c.count-count.ensures.value) in
     record {
       value = unmet_found values cs _ l before here;
       right = names_found values cs _ l before here;
-      same = c.is-met.ensures.same ∙ c.loop-k.invariant.0 ∙ origin;
+      same = c.is_met.ensures.same ∙ c.loop-k.invariant.0 ∙ origin;
     }
 
 pub returns : goal.returns

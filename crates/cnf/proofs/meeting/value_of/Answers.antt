@@ -6,4 +6,4 @@ use Rattle.cnf.proofs.meeting.value_of.Goals as goal
 pub returns-then-variable-eq0 : goal.returns-then-variable-eq0
 returns-then-variable-eq0 c =
     byte_none c.args.values.now c.args.literal _
-    (c.unsigned-abs-variable.ensures.value ∙ ap nat_abs (to_z-of_z w32 c.args.literal c.ranges.literal)) c.then-variable-eq0.either
+    (c.unsigned_abs-variable.ensures.value ∙ ap nat_abs (to_z-of_z w32 c.args.literal c.ranges.literal)) c.then-variable-eq0.either

@@ -11,9 +11,9 @@ use Rattle.cnf.proofs.writing.add_all.Goals.{After-count-n}
 origin : (g : given.Over) (c : goal.After-count-n g) → g.F.Formula.clauses c.count-n.new.self ≡ g.F.Formula.clauses c.args.source.now
 origin g c = ap g.F.Formula.clauses c.count-n.ensures.same
 
-pub add-at-requires : goal.add-at-requires
-add-at-requires g c =
-    let d = (goal.at.add-at-requires g c).After-count-n in
+pub add_at-requires : goal.add_at-requires
+add_at-requires g c =
+    let d = (goal.at.add_at-requires g c).After-count-n in
     let k = c.loop-k.k in
     let o = origin g d in
     let here = ap (λ s. g.F.Formula.clauses s) c.loop-k.invariant.0 ∙ o in
@@ -33,10 +33,10 @@ loop-k-preserved g c =
     let st = g.S.Sink.state c.args.sink.now in
     let l : c.loop-k.k < length (g.F.Formula.clauses c.count-n.new.self) = omega (arith, c.loop-k-test.true, c.count-n.ensures.value, ap length (origin g d)) in
     let here = ap (λ s. get_or (g.F.Formula.clauses s) k []) c.loop-k.invariant.0 in (
-      c.add-at.ensures.same ∙ c.loop-k.invariant.0,
-      c.add-at.ensures.after ∙ (λ i. added (c.loop-k.invariant.1 i) (here i)) ∙ written_more st cs k l,
-      c.add-at.ensures.appended ∙ (λ i. c.loop-k.invariant.2 i ++ (here i ∷ [])) ∙ append_assoc (g.S.Formula.clauses c.args.sink.now) (take k cs) (get_or cs k [] ∷ []) ∙ ap (λ t. g.S.Formula.clauses c.args.sink.now ++ t) (sym (take_more cs k [] l)),
-      c.add-at.ensures.lent ∙ c.loop-k.invariant.3,
+      c.add_at.ensures.same ∙ c.loop-k.invariant.0,
+      c.add_at.ensures.after ∙ (λ i. added (c.loop-k.invariant.1 i) (here i)) ∙ written_more st cs k l,
+      c.add_at.ensures.appended ∙ (λ i. c.loop-k.invariant.2 i ++ (here i ∷ [])) ∙ append_assoc (g.S.Formula.clauses c.args.sink.now) (take k cs) (get_or cs k [] ∷ []) ∙ ap (λ t. g.S.Formula.clauses c.args.sink.now ++ t) (sym (take_more cs k [] l)),
+      c.add_at.ensures.lent ∙ c.loop-k.invariant.3,
     )
 
 pub loop-k-init : goal.loop-k-init

@@ -5,18 +5,18 @@ use Rattle.cnf.proofs.Copies.{length_or_zero}
 use Rattle.cnf.proofs.Writes.{any_here, any_next, any_end, bad_length_true, bad_length_false}
 use Rattle.cnf.proofs.writing.any_bad_length.Given as given
 use Rattle.cnf.proofs.writing.any_bad_length.Goals as goal
-use Rattle.cnf.proofs.writing.any_bad_length.Goals.{After-unwrap-or-m}
+use Rattle.cnf.proofs.writing.any_bad_length.Goals.{After-unwrap_or-m}
 
-m-is : (g : given.Over) (c : goal.After-unwrap-or-m g) → c.unwrap-or-m.result ≡ length (get_or (g.F.Formula.clauses c.count-n.new.self) c.loop-k.k [])
+m-is : (g : given.Over) (c : goal.After-unwrap_or-m g) → c.unwrap_or-m.result ≡ length (get_or (g.F.Formula.clauses c.count-n.new.self) c.loop-k.k [])
 m-is g c =
-    c.unwrap-or-m.ensures ∙ ap (λ o. unwrap_or o 0) c.length.ensures.value ∙ length_or_zero (g.F.Formula.clauses c.loop-k.source) c.loop-k.k ∙ ap (λ s. length (get_or (g.F.Formula.clauses s) c.loop-k.k [])) c.loop-k.invariant.0
+    c.unwrap_or-m.ensures ∙ ap (λ o. unwrap_or o 0) c.length.ensures.value ∙ length_or_zero (g.F.Formula.clauses c.loop-k.source) c.loop-k.k ∙ ap (λ s. length (get_or (g.F.Formula.clauses s) c.loop-k.k [])) c.loop-k.invariant.0
 
-within : (g : given.Over) (c : goal.After-unwrap-or-m g) → c.loop-k.k < length (g.F.Formula.clauses c.count-n.new.self)
+within : (g : given.Over) (c : goal.After-unwrap_or-m g) → c.loop-k.k < length (g.F.Formula.clauses c.count-n.new.self)
 within g c = omega (arith, c.loop-k-test.true, c.count-n.ensures.value, ap (λ s. length (g.F.Formula.clauses s)) c.count-n.ensures.same)
 
 pub returns-then-m-eq0 : goal.returns-then-m-eq0
 returns-then-m-eq0 g c =
-    let d = (goal.at.returns-then-m-eq0 g c).After-unwrap-or-m in
+    let d = (goal.at.returns-then-m-eq0 g c).After-unwrap_or-m in
     record {
       value = sym (ap (λ s. any (bad_length c.args.longest) (g.F.Formula.clauses s)) (sym c.count-n.ensures.same) ∙ c.loop-k.invariant.1 ∙ any_here _ _ _ [] (within g d) (bad_length_true _ _ _ (m-is g d) c.then-m-eq0.either));
       same = c.length.ensures.same ∙ c.loop-k.invariant.0 ∙ c.count-n.ensures.same;
@@ -24,7 +24,7 @@ returns-then-m-eq0 g c =
 
 pub loop-k-preserved : goal.loop-k-preserved
 loop-k-preserved g c =
-    let d = (goal.at.loop-k-preserved g c).After-unwrap-or-m in (
+    let d = (goal.at.loop-k-preserved g c).After-unwrap_or-m in (
       c.length.ensures.same ∙ c.loop-k.invariant.0,
       c.loop-k.invariant.1 ∙ any_next _ _ _ [] (within g d) (bad_length_false _ _ _ (m-is g d) c.if-m-eq0.false c.if-m-longest.false),
     )

@@ -4,31 +4,31 @@ use Rattle.cnf.specs.Writing.{any}
 use Rattle.cnf.proofs.Writes.{any_here, any_next, any_end, fits_at}
 use Rattle.cnf.proofs.writing.any_bad_literal.Given as given
 use Rattle.cnf.proofs.writing.any_bad_literal.Goals as goal
-use Rattle.cnf.proofs.writing.any_bad_literal.Goals.{After-bad-literal-at}
+use Rattle.cnf.proofs.writing.any_bad_literal.Goals.{After-bad_literal_at}
 
-pub bad-literal-at-requires : goal.bad-literal-at-requires
-bad-literal-at-requires g c =
+pub bad_literal_at-requires : goal.bad_literal_at-requires
+bad_literal_at-requires g c =
     let e = c.loop-k.invariant.0 ∙ c.count-n.ensures.same in
     omega (arith, fits_at (length c.args.buffer.now) (g.F.Formula.clauses c.args.source.now) c.loop-k.k c.requires, c.loop-k.auto.buffer, ap (λ s. length (get_or (g.F.Formula.clauses s) c.loop-k.k [])) e)
 
-within : (g : given.Over) (c : goal.After-bad-literal-at g) → c.loop-k.k < length (g.F.Formula.clauses c.count-n.new.self)
+within : (g : given.Over) (c : goal.After-bad_literal_at g) → c.loop-k.k < length (g.F.Formula.clauses c.count-n.new.self)
 within g c = omega (arith, c.loop-k-test.true, c.count-n.ensures.value, ap (λ s. length (g.F.Formula.clauses s)) c.count-n.ensures.same)
 
-here : (g : given.Over) (c : goal.After-bad-literal-at g) → has_bad_literal c.args.top (get_or (g.F.Formula.clauses c.count-n.new.self) c.loop-k.k []) ≡ c.bad-literal-at.result
-here g c = ap (λ s. has_bad_literal c.args.top (get_or (g.F.Formula.clauses s) c.loop-k.k [])) (sym c.loop-k.invariant.0) ∙ sym c.bad-literal-at.ensures.value
+here : (g : given.Over) (c : goal.After-bad_literal_at g) → has_bad_literal c.args.top (get_or (g.F.Formula.clauses c.count-n.new.self) c.loop-k.k []) ≡ c.bad_literal_at.result
+here g c = ap (λ s. has_bad_literal c.args.top (get_or (g.F.Formula.clauses s) c.loop-k.k [])) (sym c.loop-k.invariant.0) ∙ sym c.bad_literal_at.ensures.value
 
-pub returns-then-bad-literal-at : goal.returns-then-bad-literal-at
-returns-then-bad-literal-at g c =
-    let d = (goal.at.returns-then-bad-literal-at g c).After-bad-literal-at in
+pub returns-then-bad_literal_at : goal.returns-then-bad_literal_at
+returns-then-bad_literal_at g c =
+    let d = (goal.at.returns-then-bad_literal_at g c).After-bad_literal_at in
     record {
-      value = sym (ap (λ s. any (has_bad_literal c.args.top) (g.F.Formula.clauses s)) (sym c.count-n.ensures.same) ∙ c.loop-k.invariant.1 ∙ any_here _ _ _ [] (within g d) (here g d ∙ c.if-bad-literal-at.true));
-      same = c.bad-literal-at.ensures.same ∙ c.loop-k.invariant.0 ∙ c.count-n.ensures.same;
+      value = sym (ap (λ s. any (has_bad_literal c.args.top) (g.F.Formula.clauses s)) (sym c.count-n.ensures.same) ∙ c.loop-k.invariant.1 ∙ any_here _ _ _ [] (within g d) (here g d ∙ c.if-bad_literal_at.true));
+      same = c.bad_literal_at.ensures.same ∙ c.loop-k.invariant.0 ∙ c.count-n.ensures.same;
     }
 
 pub loop-k-preserved : goal.loop-k-preserved
 loop-k-preserved g c =
-    let d = (goal.at.loop-k-preserved g c).After-bad-literal-at in
-    (c.bad-literal-at.ensures.same ∙ c.loop-k.invariant.0, c.loop-k.invariant.1 ∙ any_next _ _ _ [] (within g d) (here g d ∙ c.if-bad-literal-at.false))
+    let d = (goal.at.loop-k-preserved g c).After-bad_literal_at in
+    (c.bad_literal_at.ensures.same ∙ c.loop-k.invariant.0, c.loop-k.invariant.1 ∙ any_next _ _ _ [] (within g d) (here g d ∙ c.if-bad_literal_at.false))
 
 pub returns : goal.returns
 returns g c =

@@ -5,8 +5,8 @@ use Rattle.cnf.proofs.Writes.{fits_at, total_more}
 use Rattle.cnf.proofs.writing.total_cost.Given as given
 use Rattle.cnf.proofs.writing.total_cost.Goals as goal
 
-pub cost-at-requires : goal.cost-at-requires
-cost-at-requires g c =
+pub cost_at-requires : goal.cost_at-requires
+cost_at-requires g c =
     let e = c.loop-k.invariant.0 ∙ c.count-n.ensures.same in
     omega (arith, fits_at (length c.args.buffer.now) (g.F.Formula.clauses c.args.source.now) c.loop-k.k c.requires, c.loop-k.auto.buffer, ap (λ s. length (get_or (g.F.Formula.clauses s) c.loop-k.k [])) e)
 
@@ -15,12 +15,12 @@ loop-k-preserved g c =
     let k = c.loop-k.k in
     let cs = g.F.Formula.clauses c.count-n.new.self in
     let l : c.loop-k.k < length (g.F.Formula.clauses c.count-n.new.self) = omega (arith, c.loop-k-test.true, c.count-n.ensures.value, ap (λ s. length (g.F.Formula.clauses s)) c.count-n.ensures.same) in
-    let e : c.cost-at.result ≡ (g.S.Sink.state c.args.sink.now).cost (get_or (g.F.Formula.clauses c.count-n.new.self) c.loop-k.k []) =
-    c.cost-at.ensures.value ∙ ap (λ s. (g.S.Sink.state s).cost (get_or (g.F.Formula.clauses c.loop-k.source) c.loop-k.k [])) c.loop-k.invariant.1 ∙ ap (λ s. (g.S.Sink.state c.args.sink.now).cost (get_or (g.F.Formula.clauses s) c.loop-k.k [])) c.loop-k.invariant.0 in (
-      c.cost-at.ensures.same ∙ c.loop-k.invariant.0,
-      c.cost-at.ensures.kept ∙ c.loop-k.invariant.1,
+    let e : c.cost_at.result ≡ (g.S.Sink.state c.args.sink.now).cost (get_or (g.F.Formula.clauses c.count-n.new.self) c.loop-k.k []) =
+    c.cost_at.ensures.value ∙ ap (λ s. (g.S.Sink.state s).cost (get_or (g.F.Formula.clauses c.loop-k.source) c.loop-k.k [])) c.loop-k.invariant.1 ∙ ap (λ s. (g.S.Sink.state c.args.sink.now).cost (get_or (g.F.Formula.clauses s) c.loop-k.k [])) c.loop-k.invariant.0 in (
+      c.cost_at.ensures.same ∙ c.loop-k.invariant.0,
+      c.cost_at.ensures.kept ∙ c.loop-k.invariant.1,
       omega (arith, e, c.from-sum.ensures, c.loop-k.invariant.2, total_more (g.S.Sink.state c.args.sink.now).cost (g.F.Formula.clauses c.count-n.new.self) c.loop-k.k l),
-      omega (arith, c.from-sum.ensures, c.cost-at.ensures.most, c.loop-k.invariant.3),
+      omega (arith, c.from-sum.ensures, c.cost_at.ensures.most, c.loop-k.invariant.3),
     )
 
 pub returns : goal.returns

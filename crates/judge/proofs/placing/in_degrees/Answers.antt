@@ -8,5 +8,5 @@ loop-w-preserved g c = (
   below_more _ _
       (λ k h. let ne : k ≢ c.loop-w.w = omega arith in
       get_or-set_other c.loop-w.degrees c.loop-w.w k _ 0 ne ∙ c.loop-w.invariant.1 k h)
-      (get_or-set_same c.loop-w.degrees c.loop-w.w _ 0 (omega (arith, c.loop-w.invariant.0)) ∙ c.in-degree.ensures),
+      (get_or-set_same c.loop-w.degrees c.loop-w.w _ 0 (omega (arith, c.loop-w.invariant.0)) ∙ c.in_degree.ensures),
 )

@@ -7,14 +7,14 @@ pub returns : goal.returns
 returns c =
     let s = c.args.sheet.now in
     let ring = found_ring (view s).pipe c.args.values.now s.nodes _ _ _ _ _ c.nodes-n.ensures
-    c.place-nodes-count.ensures c.if-count-n.false in
+    c.place_nodes-count.ensures c.if-count-n.false in
     record {
       answer = ring.answer (sym c.in-default.ensures);
       lists = record {
-        nodes = ring.nodes _ _ c.name-ring.ensures.nodes;
-        pipes = ring.pipes _ _ c.name-ring.ensures.pipes;
+        nodes = ring.nodes _ _ c.name_ring.ensures.nodes;
+        pipes = ring.pipes _ _ c.name_ring.ensures.pipes;
       };
-      nodes-lent = c.name-ring.ensures.nodes-lent;
-      pipes-lent = c.name-ring.ensures.pipes-lent;
-      past = λ u h. c.place-nodes-count.ensures.past u (omega (arith, c.nodes-n.ensures));
+      nodes_lent = c.name_ring.ensures.nodes_lent;
+      pipes_lent = c.name_ring.ensures.pipes_lent;
+      past = λ u h. c.place_nodes-count.ensures.past u (omega (arith, c.nodes-n.ensures));
     }

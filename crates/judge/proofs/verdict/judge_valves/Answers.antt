@@ -8,11 +8,11 @@ pub returns : goal.returns
 returns c =
     record {
       answer = search rules;
-      lists = c.judge-marked.ensures.lists;
-      nodes-lent = search rules;
-      pipes-lent = search rules;
+      lists = c.judge_marked.ensures.lists;
+      nodes_lent = search rules;
+      pipes_lent = search rules;
       right = answer_right (view c.args.sheet.now) c.args.values.now c.args.sheet.now.pipes_join _ _ _
-          c.judge-marked.ensures.answer (λ h. (when_true _ _ h c.judge-marked.ensures.lists.nodes).entries_are)
-          (λ h. (when_true _ _ h c.judge-marked.ensures.lists.pipes).entries_are);
+          c.judge_marked.ensures.answer (λ h. (when_true _ _ h c.judge_marked.ensures.lists.nodes).entries_are)
+          (λ h. (when_true _ _ h c.judge_marked.ensures.lists.pipes).entries_are);
       marks = search rules;
     }

@@ -18,7 +18,7 @@ loop-k-preserved c =
       length-set c.loop-k.pipes _ _ ∙ c.loop-k.invariant.0,
       pipes_more _ c.loop-k.pipes c.loop-k.k _ (omega (arith, c.loop-k.invariant.0, c.requires))
           (ring_pipe_is (view c.args.sheet.now).pipe ns c.loop-k.k _ _ _ refl to_is
-          (c.unwrap-or-valve.ensures ∙ ap (λ o. unwrap_or o 0) c.valve.ensures))
+          (c.unwrap_or-valve.ensures ∙ ap (λ o. unwrap_or o 0) c.valve.ensures))
           c.loop-k.invariant.1,
     )
 

@@ -7,10 +7,10 @@ use Rattle.sinks.proofs.guard.put_onto.Goals as goal
 pub returns : goal.returns
 returns c =
     let cl = c.args.clause.now in
-    let e : c.copy-from-slice.new.self ≡ c.args.clause.now = c.copy-from-slice.ensures.after in
+    let e : c.copy_from_slice.new.self ≡ c.args.clause.now = c.copy_from_slice.ensures.after in
     let z = to_z-of_z w32 c.args.literal c.ranges.literal in
     let rest = post_of 0 (length cl - 0) c.args.out.now in
-    let l : length cl < length (c.copy-from-slice.new.self ++ rest) =
+    let l : length cl < length (c.copy_from_slice.new.self ++ rest) =
     simp (length-append, length-drop) (omega (arith, ap length e)) in
     record {
       value = search rules;

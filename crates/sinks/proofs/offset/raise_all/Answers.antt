@@ -21,7 +21,7 @@ loop-i-preserved c =
     let lo : c.loop-i.i < length c.loop-i.out =
     omega (arith, c.loop-i-test.true, c.loop-i.auto.out, c.requires.room) in
     let h : SFits w32 (get_or c.args.clause.now c.loop-i.i (pos 0)) = search rules in
-    let f : SFits w32 c.raise.result = record { sfits = c.raise.type-inv } in
+    let f : SFits w32 c.raise.result = record { sfits = c.raise.type_inv } in
     let z = to_z-of_z w32 _ f ∙ c.raise.ensures ∙ ap (raised d) (to_z-of_z w32 _ h) in
     take_more_set c.loop-i.out i _ lo
     ∙ (λ k. c.loop-i.invariant k ++ (z k ∷ []))

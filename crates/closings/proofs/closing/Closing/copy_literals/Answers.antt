@@ -13,12 +13,12 @@ clauses g c = g.Self.Closing.means c.args.self.now (input c.args.x.now)
 -- how many literals are copied
 count_is
     : (g : given.Over) (c : goal.After-min-n g)
-    → c.saturating-sub-left.result ≡ length (get_or (clauses g c) c.args.k []) - c.args.from
+    → c.saturating_sub-left.result ≡ length (get_or (clauses g c) c.args.k []) - c.args.from
 unfolding clauses
 count_is g c =
-    c.saturating-sub-left.ensures
+    c.saturating_sub-left.ensures
     ∙ ap (λ n. n - c.args.from)
-    (c.unwrap-or.ensures ∙ ap (λ o. unwrap_or o 0) c.length.ensures ∙ length_or_zero (clauses g c) c.args.k)
+    (c.unwrap_or.ensures ∙ ap (λ o. unwrap_or o 0) c.length.ensures ∙ length_or_zero (clauses g c) c.args.k)
 
 pub loop-i-preserved : goal.loop-i-preserved
 unfolding clauses
@@ -26,8 +26,8 @@ loop-i-preserved g c =
     let cl = get_or (clauses g (goal.at.loop-i-preserved g c).After-min-n) c.args.k [] in
     let count = count_is g (goal.at.loop-i-preserved g c).After-min-n in
     let within : c.args.from + c.loop-i.i < length cl = omega (arith, count, c.min-n.ensures, c.loop-i-test.true) in
-    let fits : SFits w32 c.unwrap-or-in-loop-i.result = search rules in
-    let is = to_z-of_z w32 _ fits ∙ c.unwrap-or-in-loop-i.ensures ∙ ap (λ o. unwrap_or o (pos 0)) c.literal.ensures
+    let fits : SFits w32 c.unwrap_or-in-loop-i.result = search rules in
+    let is = to_z-of_z w32 _ fits ∙ c.unwrap_or-in-loop-i.ensures ∙ ap (λ o. unwrap_or o (pos 0)) c.literal.ensures
     ∙ value_at cl _ (pos 0) _ within in
     copied_more cl c.args.out.now c.loop-i.out c.args.from c.loop-i.i _ (omega arith)
     (omega (arith, c.min-n.ensures, c.loop-i-test.true)) c.loop-i.invariant is

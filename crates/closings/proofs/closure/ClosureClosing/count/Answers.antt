@@ -5,4 +5,4 @@ use Rattle.closings.specs.ClosureListing.{length_closure}
 use Rattle.closings.proofs.closure.ClosureClosing.count.Goals as goal
 
 pub returns : goal.returns
-returns c = omega (arith, length_closure (input c.args.x.now), c.arc-count.ensures.is)
+returns c = omega (arith, length_closure (input c.args.x.now), c.arc_count.ensures.is)

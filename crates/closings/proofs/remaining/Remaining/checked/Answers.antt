@@ -35,8 +35,8 @@ module _ (x : Input) (law : Lawful x) (places : List Arc) (front : take (length 
 pub placed-requires : goal.placed-requires
 placed-requires c = arcs_4096 _ (c.ready.ensures.0 c.if-not-ready.false)
 
-pub overflow-cast-result : goal.overflow-cast-result
-overflow-cast-result c = let few = arcs_4096 _ (c.ready.ensures.0 c.if-not-ready.false) in search rules
+pub overflow_cast-result : goal.overflow_cast-result
+overflow_cast-result c = let few = arcs_4096 _ (c.ready.ensures.0 c.if-not-ready.false) in search rules
 
 pub invariant-of-result : goal.invariant-of-result
 invariant-of-result c =

@@ -6,5 +6,5 @@ use Rattle.closings.proofs.steps.StepsClosing.count.Goals as goal
 
 pub returns : goal.returns
 returns c =
-    rw (c.step-count-steps.ensures, c.saturating-sub-row.ensures, c.arc-count.ensures.is)
+    rw (c.step_count-steps.ensures, c.saturating_sub-row.ensures, c.arc_count.ensures.is)
     (sym (length_steps (input c.args.x.now)))

@@ -9,11 +9,11 @@ use Rattle.cnf.proofs.formula.Formula.copy_literals.Goals.{After-min-n}
 -- how many literals are copied
 count_is
     : (g : given.Over) (c : goal.After-min-n g)
-    → c.saturating-sub-left.result ≡ length (get_or (g.Self.Formula.clauses c.args.self.now) c.args.k []) - c.args.from
+    → c.saturating_sub-left.result ≡ length (get_or (g.Self.Formula.clauses c.args.self.now) c.args.k []) - c.args.from
 count_is g c =
-    c.saturating-sub-left.ensures
+    c.saturating_sub-left.ensures
     ∙ ap (λ n. n - c.args.from)
-    (c.unwrap-or.ensures ∙ ap (λ o. unwrap_or o 0) c.length.ensures.value ∙ length_or_zero (g.Self.Formula.clauses c.args.self.now) c.args.k)
+    (c.unwrap_or.ensures ∙ ap (λ o. unwrap_or o 0) c.length.ensures.value ∙ length_or_zero (g.Self.Formula.clauses c.args.self.now) c.args.k)
 
 pub loop-i-preserved : goal.loop-i-preserved
 loop-i-preserved g c =
@@ -22,9 +22,9 @@ loop-i-preserved g c =
     let len = ap (λ s. length (get_or (g.Self.Formula.clauses s) c.args.k [])) c.length.ensures.same in
     let within : c.args.from + c.loop-i.i < length (get_or (g.Self.Formula.clauses c.length.new.self) c.args.k []) =
     omega (arith, count, len, c.min-n.ensures, c.loop-i-test.true) in
-    let fits : SFits w32 c.unwrap-or-in-loop-i.result = search rules in
+    let fits : SFits w32 c.unwrap_or-in-loop-i.result = search rules in
     let told = c.literal.ensures.value ∙ ap (λ s. nth (get_or (g.Self.Formula.clauses s) c.args.k []) (c.args.from + c.loop-i.i)) c.loop-i.invariant.0 in
-    let is = to_z-of_z w32 _ fits ∙ c.unwrap-or-in-loop-i.ensures ∙ ap (λ o. unwrap_or o (pos 0)) told ∙ value_at cl _ (pos 0) _ within in (
+    let is = to_z-of_z w32 _ fits ∙ c.unwrap_or-in-loop-i.ensures ∙ ap (λ o. unwrap_or o (pos 0)) told ∙ value_at cl _ (pos 0) _ within in (
       c.literal.ensures.same ∙ c.loop-i.invariant.0,
       copied_more cl c.args.out.now c.loop-i.out c.args.from c.loop-i.i _ (omega arith)
           (omega (arith, c.min-n.ensures, c.loop-i-test.true)) c.loop-i.invariant.1 is,

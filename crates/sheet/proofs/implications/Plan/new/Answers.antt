@@ -5,7 +5,7 @@ use Rattle.sheet.specs.Tables.{table}
 use Rattle.sheet.specs.declared.implications.Plan.{Plan}
 use Rattle.sheet.proofs.Plans.{arcs_noted, done_all, done_noted, done_past, few_pairs, pair_below, planned_is}
 use Rattle.sheet.proofs.implications.Plan.new.Goals as goal
-use Rattle.sheet.proofs.implications.Plan.new.Goals.{else-is-there, then-is-there}
+use Rattle.sheet.proofs.implications.Plan.new.Goals.{else-is_there, then-is_there}
 
 pub visit-requires : goal.visit-requires
 visit-requires g c =
@@ -25,9 +25,9 @@ loop-i-preserved g c =
     let i = c.loop-i.i in
     let k : Arcs = record { arc = table c.args.arcs.now; next = c.args.next } in
     let is = ap are_there (sym c.body.ensures.value) in
-    elim c.if-is-there.branch [
-      | then-is-there x ↦
-          let there = is ∙ sym x.if-is-there.ensures in
+    elim c.if-is_there.branch [
+      | then-is_there x ↦
+          let there = is ∙ sym x.if-is_there.ensures in
           let e = x.visit.ensures in (
             ap plan_pairs x.plan-is ∙ e.pairs ∙ ap (λ qs. qs ++ (pair_at n i ∷ [])) inv.0 ∙ done_noted ps n i there,
             ap plan_arcs x.plan-is ∙ e.arcs ∙ ap (λ (l : Arcs). with_arc l (pair_at n i)) inv.1 ∙ arcs_noted ps n i k there,
@@ -35,8 +35,8 @@ loop-i-preserved g c =
             omega (arith, ap (λ (p : Plan). p.next) x.plan-is, e.next, inv.3),
             subst (λ (p : Plan). p.count ≤ length p.pairs) (sym x.plan-is) e.count.1,
           )
-      | else-is-there x ↦
-          let past = done_past ps n i (is ∙ sym x.if-is-there.ensures) in (
+      | else-is_there x ↦
+          let past = done_past ps n i (is ∙ sym x.if-is_there.ensures) in (
             ap plan_pairs x.plan-is ∙ inv.0 ∙ past,
             ap plan_arcs x.plan-is ∙ inv.1 ∙ ap (with_arcs k) past,
             omega (arith, ap (λ (p : Plan). p.count) x.plan-is, inv.2),

@@ -14,7 +14,7 @@ pub invariant-of-self : goal.invariant-of-self
 invariant-of-self g c =
     let s = c.args.self.now in
     let v = c.args.node in
-    let e = c.in-ok-plan.ensures in
+    let e = c.in_ok-plan.ensures in
     let fit = fit_planned s.nodes s.valves s.out (way_through (view s).arc v) (arcs_of (view s))
     (λ u w t.
     let p = and_parts _ _ t in
@@ -27,12 +27,12 @@ invariant-of-self g c =
       to_stays = (s.arcs_stay v w from).1;
     })
     (fit_of s) in
-    let planned : Fit s.nodes s.valves s.out (plan_arcs c.in-ok-plan.plan) =
+    let planned : Fit s.nodes s.valves s.out (plan_arcs c.in_ok-plan.plan) =
     subst (λ (k : Arcs). Fit s.nodes s.valves s.out k) (sym e.arcs) fit in
-    let left = fit_without s.nodes s.valves s.out v (plan_arcs c.in-ok-plan.plan) planned in
+    let left = fit_without s.nodes s.valves s.out v (plan_arcs c.in_ok-plan.plan) planned in
     let n : length s.out ≡ 64 = search rules in
     let few = count_staying s.out v n (omega arith) c.if-self-node.false in
-    fit_keeps s s.phase (set s.out v true) (record { arc = table c.clear-node.new.arcs; next = c.in-ok-plan.plan.next })
-    (subst (λ (t : Table). Fit s.nodes s.valves (set s.out v true) (record { arc = t; next = c.in-ok-plan.plan.next })) (sym c.clear-node.ensures) left)
+    fit_keeps s s.phase (set s.out v true) (record { arc = table c.clear_node.new.arcs; next = c.in_ok-plan.plan.next })
+    (subst (λ (t : Table). Fit s.nodes s.valves (set s.out v true) (record { arc = t; next = c.in_ok-plan.plan.next })) (sym c.clear_node.ensures) left)
     (λ t. subst (λ f. T (is_fresh f)) c.in-Closing.is t)
     (omega (arith, few, e.next, s.next_few))

@@ -13,7 +13,7 @@ use Rattle.sheet.proofs.place.Sheet.give_arcs.Goals as goal
 pub invariant-of-self : goal.invariant-of-self
 invariant-of-self g c =
     let s = c.args.self.now in
-    let e = c.in-ok-plan.ensures in
+    let e = c.in_ok-plan.ensures in
     let fresh : T (is_fresh s.phase) = subst (λ f. T (is_fresh f)) (sym c.in-Drawing.is) tt in
     let fit = fit_planned s.nodes s.valves s.out (valve_of (view s).pipe) (arcs_of (view s))
     (λ u w t.
@@ -21,6 +21,6 @@ invariant-of-self g c =
     record { from = j.0; to = j.1; from_stays = s.fresh_stays u fresh; to_stays = s.fresh_stays w fresh })
     (fit_of s) in
     let few = count_most 64 (λ u. not (get_or s.out u false)) in
-    fit_keeps s Closing s.out (plan_arcs c.in-ok-plan.plan)
+    fit_keeps s Closing s.out (plan_arcs c.in_ok-plan.plan)
     (subst (λ (k : Arcs). Fit s.nodes s.valves s.out k) (sym e.arcs) fit) (λ t. t)
     (omega (arith, few, e.next, s.fresh_next fresh, s.valves_few.1))

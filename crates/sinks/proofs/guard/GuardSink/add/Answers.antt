@@ -11,9 +11,9 @@ returns g c =
     let st = g.S.Sink.state s.below in
     let cs = g.S.Formula.clauses s.below in
     let same = c.stored.ensures.same in
-    let n : c.in-ok-n.n - 0 ≡ c.in-ok-n.n = omega arith in
-    let what = ap (λ k. take k c.stored.new.out) n ∙ c.in-ok-n.ensures.stored.1 in
-    let fine = sym c.in-ok-n.ensures.answer in
+    let n : c.in_ok-n.n - 0 ≡ c.in_ok-n.n = omega arith in
+    let what = ap (λ k. take k c.stored.new.out) n ∙ c.in_ok-n.ensures.stored.1 in
+    let fine = sym c.in_ok-n.ensures.answer in
     let r = is_ok c.add.result in
     record {
       answer = c.add.ensures.answer

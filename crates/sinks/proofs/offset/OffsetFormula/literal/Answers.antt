@@ -7,7 +7,7 @@ use Rattle.sinks.proofs.offset.OffsetFormula.literal.Goals as goal
 
 pub returns-in-Some : goal.returns-in-Some
 returns-in-Some g c =
-    let f : SFits w32 c.lower.result = record { sfits = c.lower.type-inv } in
+    let f : SFits w32 c.lower.result = record { sfits = c.lower.type_inv } in
     let h : SFits w32 c.in-Some.literal = search rules in
     let d = c.args.self.now.shift in
     record {

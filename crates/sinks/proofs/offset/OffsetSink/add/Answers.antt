@@ -12,9 +12,9 @@ returns g c =
     let st = g.S.Sink.state s.below in
     let cs = g.S.Formula.clauses s.below in
     let same = c.stored.ensures.same in
-    let n : c.in-ok-n.n - 0 ≡ c.in-ok-n.n = omega arith in
-    let what = ap (λ k. take k c.stored.new.out) n ∙ c.in-ok-n.ensures.stored.1 in
-    let fine = sym c.in-ok-n.ensures.answer in
+    let n : c.in_ok-n.n - 0 ≡ c.in_ok-n.n = omega arith in
+    let what = ap (λ k. take k c.stored.new.out) n ∙ c.in_ok-n.ensures.stored.1 in
+    let fine = sym c.in_ok-n.ensures.answer in
     let r = is_ok c.add.result in
     record {
       answer = c.add.ensures.answer
@@ -33,14 +33,14 @@ returns g c =
           (λ e. λ i. record { below = (e ∙ ap (λ t. t.below) same) i; shift = (same i).shift }) c.add.ensures.same;
     }
 
-pub returns-in-err-n : goal.returns-in-err-n
-returns-in-err-n g c =
-    let p = err_from_is_err_and c.from-residual.result c.from-residual.ensures.1 in
+pub returns-in_err-n : goal.returns-in_err-n
+returns-in_err-n g c =
+    let p = err_from_is_err_and c.from_residual.result c.from_residual.ensures.1 in
     let same = c.stored.ensures.same in
     let st = shifted c.args.self.now.shift (g.S.Sink.state c.args.self.now.below) in
     rw (p.1, p.2)
     (record {
-      answer = refused_for_form st c.args.clause.now c.in-err-n.field-0.0 c.in-err-n.ensures.answer;
+      answer = refused_for_form st c.args.clause.now c.in_err-n.field-0.0 c.in_err-n.ensures.answer;
       after = λ i. shifted (same i).shift (g.S.Sink.state (same i).below);
       appended = λ i. map (map (lowered (same i).shift)) (g.S.Formula.clauses (same i).below);
       lent = ap (λ t. g.S.Sink.names t.below) same;

@@ -9,9 +9,9 @@ returns g c =
     let d = c.args.self.now.shift in
     let st = g.S.Sink.state c.args.self.now.below in
     record {
-      top = c.saturating-sub.ensures ∙ ap (λ n. n - d) e.top;
+      top = c.saturating_sub.ensures ∙ ap (λ n. n - d) e.top;
       longest = e.longest;
-      bounds = (omega (arith, c.saturating-sub.ensures, e.bounds.0), e.bounds.1);
+      bounds = (omega (arith, c.saturating_sub.ensures, e.bounds.0), e.bounds.1);
       tied = ap (map (map (lowered d))) e.tied ∙ map_of_map (map (lowered d)) (read_as st.layers) st.bottom;
       same = search rules;
     }

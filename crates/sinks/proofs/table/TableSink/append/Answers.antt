@@ -20,7 +20,7 @@ or-true false b h = h
 pub returns-then-entries-eq0 : goal.returns-then-entries-eq0
 returns-then-entries-eq0 c =
     let d = (goal.at.returns-then-entries-eq0 c).After-left-entries in
-    let t = sym c.in-ok-check-form.ensures in
+    let t = sym c.in_ok-check_form.ensures in
     let full : (eqb c.left-entries.result.0 0 || ltb c.left-entries.result.1 (length c.args.clause.now)) ≡ true =
     elim c.then-entries-eq0.branch [
       | then-entries-eq0-via-then-entries-eq0 w ↦ ap (λ b. b || ltb c.left-entries.result.1 (length c.args.clause.now)) (eq-eqb _ _ w.if-entries-eq0.true)
@@ -42,7 +42,7 @@ returns c =
     let s = c.args.self.now in
     let cl = c.args.clause.now in
     let d = (goal.at.returns c).After-left-entries in
-    let t = sym c.in-ok-check-form.ensures in
+    let t = sym c.in_ok-check_form.ensures in
     let e = c.keep.ensures in
     let some : s.count < length s.pairs.now = omega (arith, c.left-entries.ensures.entries, c.if-entries-eq0.false) in
     let fits : s.used + length cl ≤ length s.literals.now = omega (arith, c.left-entries.ensures.units, c.if-units-clause.false, s.inside) in
