@@ -1,5 +1,5 @@
 -- Literals copied one by one to the front of a buffer.
-use Rattle.std.proofs.Common.{◌≡◌, ℕ, zero, suc, ◌+◌, ◌-◌, ◌<◌, ◌≤◌, List, [], ◌∷◌, ◌++◌, length, get_or, take, drop, set, Some, None, unwrap_or, sym, refl, ap, ◌∙◌, arith}
+use Rattle.std.proofs.Common.{◌≡◌, ℕ, zero, suc, ◌+◌, ◌-◌, ◌<◌, List, [], ◌∷◌, ◌++◌, length, get_or, take, drop, set, unwrap_or, sym, refl, ap, ◌∙◌, arith}
 use Rattle.bounded.specs.Lists.{nth}
 use Rattle.bounded.proofs.Entries.{nth_at}
 use Rattle.std.proofs.lemmas.List.{append_assoc, drop_more, get_or-drop, length-drop, length-take-le, set_at, take_all, take_at, take_more}

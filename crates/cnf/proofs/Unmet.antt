@@ -1,12 +1,12 @@
 -- The search for a clause that is not met, and that what it names is right.
-use Rattle.std.proofs.Common.{◌≡◌, ℕ, zero, suc, ◌+◌, ◌-◌, ◌<◌, ◌≤◌, Bool, true, false, cond, ◌||◌, eqb, ◌⊎◌, List, [], ◌∷◌, ◌++◌, length, get_or, take, drop, ℤ, pos, negsuc, Some, None, Option, sym, refl, ap, ◌∙◌, inl, inr, arith}
+use Rattle.std.proofs.Common.{◌≡◌, ℕ, zero, suc, ◌+◌, ◌-◌, ◌<◌, ◌≤◌, Bool, true, false, ◌||◌, eqb, ◌⊎◌, List, [], ◌∷◌, ◌++◌, length, get_or, take, drop, ℤ, pos, negsuc, Some, None, sym, refl, ap, ◌∙◌, inl, inr, arith}
 use Rattle.std.proofs.lemmas.List.{drop-drop, get_or_past, length-drop, length-take-le, take-append-drop, take_at}
-use Rattle.std.proofs.lemmas.Bool.{both_ways, cases_Bool, eq-eqb, eqb-true, ne_eqb, or_cases}
+use Rattle.std.proofs.lemmas.Bool.{both_ways, eq-eqb, eqb-true, ne_eqb, or_cases}
 use Rattle.std.proofs.lemmas.Bool.Decides.{nat_tests}
 use Rattle.std.specs.Option.{option_map}
 use Rattle.cnf.specs.Clauses.{Clause, variable}
 use Rattle.cnf.specs.Meeting.{byte_of, first_unmet, met}
-use Rattle.cnf.specs.Satisfaction.{Full, Holds, Meets, Names, Sat, UnmetRight, setting}
+use Rattle.cnf.specs.Satisfaction.{Holds, Meets, UnmetRight, setting}
 use Rattle.cnf.specs.Writing.{any}
 use Rattle.cnf.proofs.Writes.{none_at}
 

@@ -1,4 +1,4 @@
-use Rattle.std.proofs.Common.{◌≡◌, ℕ, ◌+◌, ◌<◌, ◌≤◌, true, [], length, get_or, sym, ap, ◌∙◌, arith}
+use Rattle.std.proofs.Common.{◌≡◌, ℕ, ◌<◌, true, [], length, get_or, sym, ap, ◌∙◌, arith}
 use Rattle.cnf.specs.Meeting.{met}
 use Rattle.cnf.specs.Writing.{any}
 use Rattle.cnf.proofs.Unmet.{names_found, names_none, unmet_found, unmet_none}

@@ -1,4 +1,4 @@
-use Rattle.std.proofs.Common.{◌≡◌, ◌+◌, ◌-◌, ◌≤◌, min, true, false, ◌||◌, [], ◌++◌, length, get_or, take, drop, unwrap_or, sym, ap, ◌∙◌, arith, rules}
+use Rattle.std.proofs.Common.{◌≡◌, ◌+◌, ◌-◌, ◌≤◌, min, ◌||◌, [], ◌++◌, length, get_or, take, drop, unwrap_or, sym, ap, ◌∙◌, arith, rules}
 use Rattle.std.proofs.lemmas.Bool.{or_left}
 use Rattle.cnf.specs.Meeting.{met}
 use Rattle.cnf.specs.Writing.{any}

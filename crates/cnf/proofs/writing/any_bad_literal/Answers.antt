@@ -1,5 +1,5 @@
-use Rattle.std.proofs.Common.{◌≡◌, ◌<◌, ◌≤◌, false, [], length, get_or, sym, ap, ◌∙◌, subst, arith}
-use Rattle.cnf.specs.Clauses.{has_bad_literal, bad_length}
+use Rattle.std.proofs.Common.{◌≡◌, ◌<◌, ◌≤◌, [], length, get_or, sym, ap, ◌∙◌, arith}
+use Rattle.cnf.specs.Clauses.{has_bad_literal}
 use Rattle.cnf.specs.Writing.{any}
 use Rattle.cnf.proofs.Writes.{any_here, any_next, any_end, fits_at}
 use Rattle.cnf.proofs.writing.any_bad_literal.Given as given

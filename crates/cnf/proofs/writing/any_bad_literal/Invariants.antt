@@ -1,4 +1,4 @@
-use Rattle.std.proofs.Common.{◌≡◌, length, drop}
+use Rattle.std.proofs.Common.{◌≡◌, drop}
 use Rattle.cnf.specs.Clauses.{has_bad_literal}
 use Rattle.cnf.specs.Writing.{any}
 use Rattle.cnf.proofs.writing.any_bad_literal.Given as goal

@@ -1,8 +1,7 @@
-use Rattle.std.proofs.Common.{◌≡◌, ◌+◌, ◌<◌, ◌≤◌, [], length, get_or, take, sym, ap, ◌∙◌, subst, arith}
+use Rattle.std.proofs.Common.{◌≡◌, ◌<◌, ◌≤◌, [], length, get_or, ap, ◌∙◌, arith}
 use Rattle.std.proofs.lemmas.List.{take_all}
 use Rattle.cnf.specs.Writing.{total}
 use Rattle.cnf.proofs.Writes.{fits_at, total_more}
-use Rattle.cnf.proofs.writing.total_cost.Given as given
 use Rattle.cnf.proofs.writing.total_cost.Goals as goal
 
 pub cost_at-requires : goal.cost_at-requires

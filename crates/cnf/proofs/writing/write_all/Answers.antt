@@ -1,4 +1,4 @@
-use Rattle.std.proofs.Common.{◌≡◌, ◌≤◌, false, length, sym, refl, ap, ◌∙◌, arith}
+use Rattle.std.proofs.Common.{◌≡◌, ◌≤◌, false, length, sym, ap, ◌∙◌, arith}
 use Rattle.cnf.specs.Clauses.{bad_length, has_bad_literal}
 use Rattle.cnf.specs.Writing.{any, write_refusal, total}
 use Rattle.cnf.proofs.Writes.{wider, writes_all}
