@@ -164,16 +164,16 @@ module _ (x : Input) (law : Lawful x) where
         split : (q.step < p.step) ⊎ (p.step ≤ q.step) → Told i k
         split (inl l) =
             record {
-              i_in = p.i-in;
-              j_in = q.j-in;
+              i_in = p.i_in;
+              j_in = q.j_in;
               step = p.step;
               first = p.first;
               last = p.last;
               off = p.off;
-              on = up k q.step p.step q.j-in q.first (omega arith) p.last q.on;
+              on = up k q.step p.step q.j_in q.first (omega arith) p.last q.on;
             }
         split (inr l) =
-            absurd (both_ways _ q.off (up j p.step q.step p.j-in p.first l q.last p.on))
+            absurd (both_ways _ q.off (up j p.step q.step p.j_in p.first l q.last p.on))
 
     walk_told : {i j : ℕ} → Walk (Chosen x σ) i j → Told i j
     walk_told (one {x = i} {y = j} s) = chosen_told i j s

@@ -26,13 +26,13 @@ impl NamedClosing {
     pub fn from_name(name: &[u8]) -> Option<NamedClosing>
         ensures named { MatchOption result ((c : The-closing) → name.now ≢ name_of c) (λ c. name.now ≡ name_of c) }
     {
-        if name == b"steps" {
+        if name == b"steps".as_slice() {
             return Some(NamedClosing::BySteps);
         }
-        if name == b"numbers" {
+        if name == b"numbers".as_slice() {
             return Some(NamedClosing::ByNumbers);
         }
-        if name == b"closure" {
+        if name == b"closure".as_slice() {
             return Some(NamedClosing::ByClosure);
         }
         None

@@ -25,58 +25,43 @@ blank_table = λ i u w. go u w (ltb u 64 && ltb w 64) i
     go u w false = refl
 
 -- what the type of a sheet asks of its fields
-abbrev pub Keeps : Phase → ℕ → ℕ → ℕ → Table → Table → List Bool → Type 0
-Keeps f n v next pipe arc out =
-    ((1 ≤ n) × (n ≤ 64)) × (((1 ≤ v) × (v ≤ 60000)) × (((v < next) × (next < 2 ^ 31)) × (Joins n pipe × (Upto v pipe
-    × (Joins n arc × (Staying out arc × (Above v arc × (Below next arc × (Apart arc
-    × ((T (is_fresh f) → next ≡ v + 1) × (((u w : ℕ) → T (is_fresh f) → arc u w ≡ 0)
-    × (((u : ℕ) → T (is_fresh f) → (T (get_or out u false) → ⊥))
-    × ((next + 4096 * count 64 (λ u. not (get_or out u false)) ≤ 326241) × Unit {0})))))))))))))
+pub record Keeps (f : Phase) (n v next : ℕ) (pipe arc : Table) (out : List Bool) : Type 0 where
+  pub nodes_few : (1 ≤ n) × (n ≤ 64)
+  pub valves_few : (1 ≤ v) × (v ≤ 60000)
+  pub next_above : (v < next) × (next < 2 ^ 31)
+  pub pipes_join : Joins n pipe
+  pub pipes_upto : Upto v pipe
+  pub arcs_join : Joins n arc
+  pub arcs_stay : Staying out arc
+  pub arcs_above : Above v arc
+  pub arcs_below : Below next arc
+  pub arcs_apart : Apart arc
+  pub fresh_next : T (is_fresh f) → next ≡ v + 1
+  pub fresh_arcs : (u w : ℕ) → T (is_fresh f) → arc u w ≡ 0
+  pub fresh_stays : (u : ℕ) → T (is_fresh f) → (T (get_or out u false) → ⊥)
+  pub next_few : next + 4096 * count 64 (λ u. not (get_or out u false)) ≤ 326241
 
 blank_keeps
     : (f : Phase) (n v : ℕ) → (1 ≤ n) × (n ≤ 64) → (1 ≤ v) × (v ≤ 60000)
     → Keeps f n v (v + 1) blank blank (replicate 64 false)
 blank_keeps f n v a b =
-    let few = count_most 64 (λ u. not (get_or (replicate 64 false) u false)) in (
-      a,
-      (
-        b,
-        (
-          (omega arith, omega (arith, b.1)),
-          (
-            (λ u w h. absurd (omega arith)),
-            (
-              (λ u w. omega arith),
-              (
-                (λ u w h. absurd (omega arith)),
-                (
-                  (λ u w h. absurd (omega arith)),
-                  (
-                    (λ u w h. absurd (omega arith)),
-                    (
-                      (λ u w. omega arith),
-                      (
-                        (λ p q h. absurd (omega (arith, h.0))),
-                        (
-                          (λ _. refl),
-                          (
-                            (λ u w _. refl),
-                            (
-                              (λ u _ h. absurd (subst T (blank_out 64 u) h)),
-                              (omega (arith, b.1, few), tt),
-                            ),
-                          ),
-                        ),
-                      ),
-                    ),
-                  ),
-                ),
-              ),
-            ),
-          ),
-        ),
-      ),
-    )
+    let few = count_most 64 (λ u. not (get_or (replicate 64 false) u false)) in
+    record {
+      nodes_few = a;
+      valves_few = b;
+      next_above = (omega arith, omega (arith, b.1));
+      pipes_join = λ u w h. absurd (omega arith);
+      pipes_upto = λ u w. omega arith;
+      arcs_join = λ u w h. absurd (omega arith);
+      arcs_stay = λ u w h. absurd (omega arith);
+      arcs_above = λ u w h. absurd (omega arith);
+      arcs_below = λ u w. omega arith;
+      arcs_apart = λ p q h. absurd (omega (arith, h.0));
+      fresh_next = λ _. refl;
+      fresh_arcs = λ u w _. refl;
+      fresh_stays = λ u _ h. absurd (subst T (blank_out 64 u) h);
+      next_few = omega (arith, b.1, few);
+    }
 
 pub new_keeps
     : (f : Phase) (n v : ℕ) → (1 ≤ n) × (n ≤ 64) → (1 ≤ v) × (v ≤ 60000)

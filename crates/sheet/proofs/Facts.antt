@@ -164,37 +164,20 @@ pub fit_keeps
     : (s : Sheet) (f : Phase) (out : List Bool) (k : Arcs) → Fit s.nodes s.valves out k → (T (is_fresh f) → ⊥)
     → k.next + 4096 * count 64 (λ u. not (get_or out u false)) ≤ 326241
     → Keeps f s.nodes s.valves k.next (table s.pipes) k.arc out
-fit_keeps s f out k h started few = (
-  s.nodes_few,
-  (
-    s.valves_few,
-    (
-      (h.some, omega arith),
-      (
-        s.pipes_join,
-        (
-          s.pipes_upto,
-          (
-            h.joins,
-            (
-              h.stays,
-              (
-                h.above,
-                (
-                  h.below,
-                  (
-                    h.apart,
-                    (
-                      (λ t. absurd (started t)),
-                      ((λ u w t. absurd (started t)), ((λ u t. absurd (started t)), (few, tt))),
-                    ),
-                  ),
-                ),
-              ),
-            ),
-          ),
-        ),
-      ),
-    ),
-  ),
-)
+fit_keeps s f out k h started few =
+    record {
+      nodes_few = s.nodes_few;
+      valves_few = s.valves_few;
+      next_above = (h.some, omega arith);
+      pipes_join = s.pipes_join;
+      pipes_upto = s.pipes_upto;
+      arcs_join = h.joins;
+      arcs_stay = h.stays;
+      arcs_above = h.above;
+      arcs_below = h.below;
+      arcs_apart = h.apart;
+      fresh_next = λ t. absurd (started t);
+      fresh_arcs = λ u w t. absurd (started t);
+      fresh_stays = λ u t. absurd (started t);
+      next_few = few;
+    }

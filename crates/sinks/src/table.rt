@@ -82,7 +82,7 @@ impl<'a> TableSink<'a> {
         ensures counts { (self.new.count ≡ self.old.count + 1) × (self.new.used ≡ self.old.used + length clause.now) }
         ensures literals { self.new.literals.now ≡ behind self.old.used clause.now self.old.literals.now }
         ensures pairs { self.new.pairs.now ≡ slice_set self.old.pairs.now self.old.count (self.old.used, length clause.now) }
-        ensures lent { (self.new.literals.ghost_name ≡ self.old.literals.ghost_name) × (self.new.pairs.name ≡ self.old.pairs.name) }
+        ensures lent { (self.new.literals.ghost_name ≡ self.old.literals.ghost_name) × (self.new.pairs.ghost_name ≡ self.old.pairs.ghost_name) }
     {
         let n = clause.len();
         let used = self.used;
@@ -110,7 +110,7 @@ impl<'a> TableSink<'a> {
         ensures pairs { OnOk result (self.new.pairs.now ≡ slice_set self.old.pairs.now self.old.count (self.old.used, length clause.now)) }
         ensures after { table_state self.new.pairs.now self.new.count self.new.literals.now self.new.used ≡ (if is_ok result then added (table_state self.old.pairs.now self.old.count self.old.literals.now self.old.used) clause.now else table_state self.old.pairs.now self.old.count self.old.literals.now self.old.used) }
         ensures appended { cut (take self.new.count self.new.pairs.now) (take self.new.used self.new.literals.now) ≡ (if is_ok result then cut (take self.old.count self.old.pairs.now) (take self.old.used self.old.literals.now) ++ (clause.now ∷ []) else cut (take self.old.count self.old.pairs.now) (take self.old.used self.old.literals.now)) }
-        ensures lent { (self.new.literals.ghost_name ≡ self.old.literals.ghost_name) × (self.new.pairs.name ≡ self.old.pairs.name) }
+        ensures lent { (self.new.literals.ghost_name ≡ self.old.literals.ghost_name) × (self.new.pairs.ghost_name ≡ self.old.pairs.ghost_name) }
         ensures same { OnErr result (self.new ≡ self.old) }
     {
         check_form(clause, TOP, LONGEST)?;
@@ -164,7 +164,7 @@ impl<'a> Formula for TableSink<'a> {
 impl<'a> Sink for TableSink<'a> {
     ghost state = { λ s. table_state s.pairs.now s.count s.literals.now s.used };
 
-    ghost names = { λ s. s.literals.ghost_name ∷ (s.pairs.name ∷ []) };
+    ghost names = { λ s. s.literals.ghost_name ∷ (s.pairs.ghost_name ∷ []) };
 
     fn limits(&mut self) -> (u32, u32) {
         (TOP, LONGEST)

@@ -9,7 +9,7 @@ returns c =
     let ring = found_ring (view s).pipe c.args.values.now s.nodes _ _ _ _ _ c.nodes-n.ensures
     c.place_nodes-count.ensures c.if-count-n.false in
     record {
-      answer = ring.answer (sym c.in-default.ensures);
+      answer = ring.answer (sym c.in_default.ensures);
       lists = record {
         nodes = ring.nodes _ _ c.name_ring.ensures.nodes;
         pipes = ring.pipes _ _ c.name_ring.ensures.pipes;

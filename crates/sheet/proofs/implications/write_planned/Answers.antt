@@ -15,17 +15,16 @@ use Rattle.sheet.proofs.implications.write_planned.Given as given
 use Rattle.sheet.proofs.implications.write_planned.Goals as goal
 use Rattle.sheet.proofs.implications.write_planned.Goals.{After-new-plan}
 
-pub invariant-of-planned : goal.invariant-of-planned
-invariant-of-planned g c =
+pub invariant_of-planned : goal.invariant_of-planned
+invariant_of-planned g c =
     let s = c.args.sheet.now in
-    let e = c.new-plan.ensures in (
-      e.count,
-      (
+    let e = c.new-plan.ensures in
+    record {
+      count_few = e.count;
+      arcs_small =
         λ u w. let b = below_planned _ s.nodes (arcs_of (view s)) s.arcs_below (plan_arcs c.new-plan.result) e.arcs u w in
-            omega (arith, e.next, s.next_few),
-        tt,
-      ),
-    )
+            omega (arith, e.next, s.next_few);
+    }
 
 -- what the plan tells
 clauses-are

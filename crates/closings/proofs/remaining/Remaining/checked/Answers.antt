@@ -38,24 +38,18 @@ placed-requires c = arcs_4096 _ (c.ready.ensures.0 c.if-not-ready.false)
 pub overflow_cast-result : goal.overflow_cast-result
 overflow_cast-result c = let few = arcs_4096 _ (c.ready.ensures.0 c.if-not-ready.false) in search rules
 
-pub invariant-of-result : goal.invariant-of-result
-invariant-of-result c =
+pub invariant_of-result : goal.invariant_of-result
+invariant_of-result c =
     let r = c.ready.ensures.0 c.if-not-ready.false in
     let law = r.lawful in
     let places = c.placed.result in
-    let front = c.placed.ensures in (
-      r.few,
-      (
-        (law.positive, r.low),
-        (
-          room _ law places front,
-          (
-            ends _ law places front,
-            (
-              variables _ law places front,
-              (apart _ law places front, (ascends _ law places front, tt)),
-            ),
-          ),
-        ),
-      ),
-    )
+    let front = c.placed.ensures in
+    record {
+      nodes_few = r.few;
+      first_in = (law.positive, r.low);
+      count_in = room _ law places front;
+      arcs_join = ends _ law places front;
+      variables_in = variables _ law places front;
+      variables_apart = apart _ law places front;
+      arcs_ascend = ascends _ law places front;
+    }

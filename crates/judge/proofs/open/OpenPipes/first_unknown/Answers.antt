@@ -9,7 +9,7 @@ pub loop-i-init : goal.loop-i-init
 loop-i-init c = least_zero _
 
 pub loop-i-preserved : goal.loop-i-preserved
-loop-i-preserved c = least_more c.loop-i.i _ c.loop-i.invariant (untold _ _ c.in-default.ensures)
+loop-i-preserved c = least_more c.loop-i.i _ c.loop-i.invariant (untold _ _ c.in_default.ensures)
 
 pub returns-in-Some : goal.returns-in-Some
 returns-in-Some c =

@@ -4,12 +4,12 @@ use Rattle.sheet.specs.Tables.{table}
 use Rattle.sheet.proofs.Told.{clause_at, length_at_one, length_at_two, lengths_told}
 use Rattle.sheet.proofs.implications.PlannedFormula.length.Goals as goal
 
-pub returns-in-default : goal.returns-in-default
-returns-in-default g c =
+pub returns-in_default : goal.returns-in_default
+returns-in_default g c =
     let s = c.args.self.now in
     record {
       value = lengths_told (clause_at (g.R.Rule.premises s.rule) (table s.plan.arcs)) (plan_pairs s.plan) c.args.k None
-          c.in-default.ensures;
+          c.in_default.ensures;
       same = search rules;
     }
 

@@ -7,12 +7,12 @@ use Rattle.sheet.proofs.Told.{all_nth, arc_told, clause_at, clause_told, negated
 use Rattle.sheet.proofs.implications.PlannedFormula.literal.Goals as goal
 use Rattle.sheet.proofs.implications.PlannedFormula.literal.Goals.{then-u-w-via-else-u-w+then-j-len, then-u-w-via-then-u-w}
 
-pub returns-in-default : goal.returns-in-default
-returns-in-default g c =
+pub returns-in_default : goal.returns-in_default
+returns-in_default g c =
     let s = c.args.self.now in
     let f = clause_at (g.R.Rule.premises s.rule) (table s.plan.arcs) in
     record {
-      value = ap (λ l. nth l c.args.j) (sym (no_clause_told f (plan_pairs s.plan) c.args.k c.in-default.ensures));
+      value = ap (λ l. nth l c.args.j) (sym (no_clause_told f (plan_pairs s.plan) c.args.k c.in_default.ensures));
       same = search rules;
     }
 
@@ -36,7 +36,7 @@ returns-then-u-w g c =
     let f = clause_at (g.R.Rule.premises s.rule) (table s.plan.arcs) in
     let told = clause_told f (plan_pairs s.plan) c.args.k _ c.in-Some.ensures in
     let vs = c.body-body.ensures.value in
-    let none = c.in-default-premise.ensures ∙ ap (λ l. nth l c.args.j) vs in
+    let none = c.in_default-premise.ensures ∙ ap (λ l. nth l c.args.j) vs in
     record {
       value = elim c.then-u-w.branch [
         | then-u-w-via-then-u-w x ↦ none_told _ (table s.plan.arcs) _ _ c.args.j none (inl x.if-u-w.true)

@@ -10,8 +10,8 @@ use Rattle.sheet.proofs.Counts.{count_staying}
 use Rattle.sheet.proofs.Facts.{Fit, fit_keeps, fit_of, fit_planned, fit_without}
 use Rattle.sheet.proofs.place.Sheet.bridge.Goals as goal
 
-pub invariant-of-self : goal.invariant-of-self
-invariant-of-self g c =
+pub invariant_of-self : goal.invariant_of-self
+invariant_of-self g c =
     let s = c.args.self.now in
     let v = c.args.node in
     let e = c.in_ok-plan.ensures in
@@ -32,7 +32,23 @@ invariant-of-self g c =
     let left = fit_without s.nodes s.valves s.out v (plan_arcs c.in_ok-plan.plan) planned in
     let n : length s.out ≡ 64 = search rules in
     let few = count_staying s.out v n (omega arith) c.if-self-node.false in
-    fit_keeps s s.phase (set s.out v true) (record { arc = table c.clear_node.new.arcs; next = c.in_ok-plan.plan.next })
+    let k = fit_keeps s s.phase (set s.out v true) (record { arc = table c.clear_node.new.arcs; next = c.in_ok-plan.plan.next })
     (subst (λ (t : Table). Fit s.nodes s.valves (set s.out v true) (record { arc = t; next = c.in_ok-plan.plan.next })) (sym c.clear_node.ensures) left)
     (λ t. subst (λ f. T (is_fresh f)) c.in-Closing.is t)
-    (omega (arith, few, e.next, s.next_few))
+    (omega (arith, few, e.next, s.next_few)) in
+    record {
+      nodes_few = k.nodes_few;
+      valves_few = k.valves_few;
+      next_above = k.next_above;
+      pipes_join = k.pipes_join;
+      pipes_upto = k.pipes_upto;
+      arcs_join = k.arcs_join;
+      arcs_stay = k.arcs_stay;
+      arcs_above = k.arcs_above;
+      arcs_below = k.arcs_below;
+      arcs_apart = k.arcs_apart;
+      fresh_next = k.fresh_next;
+      fresh_arcs = k.fresh_arcs;
+      fresh_stays = k.fresh_stays;
+      next_few = k.next_few;
+    }

@@ -17,9 +17,9 @@ loop-w-preserved c =
     ] in
     let y : c.if-is_some-2.degree ≡ c.if-is_some.degree + cond (ltb 0 (a c.loop-w.w c.args.u)) 1 0 =
     elim c.if-is_some-2.branch [
-      | then-is_some-2 w ↦ counted _ _ _ _ _ c.arc_in-loop-w.ensures w.if-is_some-2.ensures w.degree-is
+      | then-is_some-2 w ↦ counted _ _ _ _ _ c.arc-in-loop-w.ensures w.if-is_some-2.ensures w.degree-is
       | else-is_some-2 w ↦
-          counted _ _ _ _ _ c.arc_in-loop-w.ensures w.if-is_some-2.ensures (omega (arith, w.degree-is))
+          counted _ _ _ _ _ c.arc-in-loop-w.ensures w.if-is_some-2.ensures (omega (arith, w.degree-is))
     ] in
     (arcs_more _ _ _ _ _ _ c.loop-w.invariant.0 x y, grind (arith, x, y, c.loop-w.invariant.1))
 

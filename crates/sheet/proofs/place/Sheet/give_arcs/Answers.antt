@@ -10,8 +10,8 @@ use Rattle.sheet.proofs.Counts.{count_most}
 use Rattle.sheet.proofs.Facts.{Fit, fit_keeps, fit_of, fit_planned}
 use Rattle.sheet.proofs.place.Sheet.give_arcs.Goals as goal
 
-pub invariant-of-self : goal.invariant-of-self
-invariant-of-self g c =
+pub invariant_of-self : goal.invariant_of-self
+invariant_of-self g c =
     let s = c.args.self.now in
     let e = c.in_ok-plan.ensures in
     let fresh : T (is_fresh s.phase) = subst (λ f. T (is_fresh f)) (sym c.in-Drawing.is) tt in
@@ -21,6 +21,22 @@ invariant-of-self g c =
     record { from = j.0; to = j.1; from_stays = s.fresh_stays u fresh; to_stays = s.fresh_stays w fresh })
     (fit_of s) in
     let few = count_most 64 (λ u. not (get_or s.out u false)) in
-    fit_keeps s Closing s.out (plan_arcs c.in_ok-plan.plan)
+    let k = fit_keeps s Closing s.out (plan_arcs c.in_ok-plan.plan)
     (subst (λ (k : Arcs). Fit s.nodes s.valves s.out k) (sym e.arcs) fit) (λ t. t)
-    (omega (arith, few, e.next, s.fresh_next fresh, s.valves_few.1))
+    (omega (arith, few, e.next, s.fresh_next fresh, s.valves_few.1)) in
+    record {
+      nodes_few = k.nodes_few;
+      valves_few = k.valves_few;
+      next_above = k.next_above;
+      pipes_join = k.pipes_join;
+      pipes_upto = k.pipes_upto;
+      arcs_join = k.arcs_join;
+      arcs_stay = k.arcs_stay;
+      arcs_above = k.arcs_above;
+      arcs_below = k.arcs_below;
+      arcs_apart = k.arcs_apart;
+      fresh_next = k.fresh_next;
+      fresh_arcs = k.fresh_arcs;
+      fresh_stays = k.fresh_stays;
+      next_few = k.next_few;
+    }

@@ -19,30 +19,23 @@ listed c =
     ap (take (c.args.self.now.count + 1)) (pairs_are c)
     ∙ take_more_set c.args.self.now.pairs.now c.args.self.now.count _ (omega (arith, c.requires.entries))
 
-pub invariant-of-self : goal.invariant-of-self
-invariant-of-self c =
+pub invariant_of-self : goal.invariant_of-self
+invariant_of-self c =
     let s = c.args.self.now in
-    let d = (goal.at.invariant-of-self c).After-list_pair in
+    let d = (goal.at.invariant_of-self c).After-list_pair in
     let was = c.replace-literals.ensures.value in
     let room : length c.store.new.literals ≡ length c.args.self.now.literals.now =
     c.store.auto.literals ∙ ap (λ s. length s.literals.now) was in
     let places : length c.list_pair.new.pairs ≡ length c.args.self.now.pairs.now =
-    ap length (pairs_are d) ∙ length-set s.pairs.now _ _ in (
-      ap (λ ps. laid 0 (lengths ps)) (listed d) ∙ chained_push _ _ _ s.chained s.full ∙ sym (listed d),
-      (
-        ap (λ ps. sum (lengths ps)) (listed d) ∙ full_push _ _ _ s.full,
-        (
-          omega (arith, room, c.requires.units),
-          (
-            omega (arith, c.requires.units),
-            (
-              omega (arith, places, c.requires.entries),
-              (omega (arith, c.requires.entries), tt),
-            ),
-          ),
-        ),
-      ),
-    )
+    ap length (pairs_are d) ∙ length-set s.pairs.now _ _ in
+    record {
+      chained = ap (λ ps. laid 0 (lengths ps)) (listed d) ∙ chained_push _ _ _ s.chained s.full ∙ sym (listed d);
+      full = ap (λ ps. sum (lengths ps)) (listed d) ∙ full_push _ _ _ s.full;
+      inside = omega (arith, room, c.requires.units);
+      few_units = omega (arith, c.requires.units);
+      listed = omega (arith, places, c.requires.entries);
+      few_entries = omega (arith, c.requires.entries);
+    }
 
 pub returns : goal.returns
 returns c =
@@ -52,5 +45,5 @@ returns c =
       counts = (refl, refl);
       literals = c.store.ensures ∙ ap (λ t. behind s.used c.args.clause.now t.literals.now) was;
       pairs = pairs_are (goal.at.returns c).After-list_pair;
-      lent = (ap (λ t. t.literals.ghost_name) was, ap (λ t. t.pairs.name) was);
+      lent = (ap (λ t. t.literals.ghost_name) was, ap (λ t. t.pairs.ghost_name) was);
     }
