@@ -38,20 +38,24 @@ def own_names():
     for path in texts():
         if not path.endswith(".antt") or os.path.basename(path) in GENERATED:
             continue
-        in_record = False
+        # how far the record is set in whose fields these lines are, or -1
+        record = -1
         lines = open(path, encoding="utf-8").read().splitlines()
         for line, after in zip(lines, lines[1:] + [""]):
             if line.strip().startswith("--"):
                 continue
-            if re.match(r"\S", line):
-                in_record = bool(re.match(r"(?:pub )?record ", line))
+            inset = len(line) - len(line.lstrip())
+            if line.strip() and inset <= record:
+                record = -1
+            if re.match(r"\s*(?:pub )?record \w", line):
+                record = inset
             m = DEFINED.match(line) or (GOES_ON.match(after) and ALONE.match(line))
             if m and "-" in m.group(4) and not m.group(4).startswith("-"):
                 names.add(m.group(4))
                 # a lemma is a value, also where its name begins with that of a type
                 if "/proofs/" in path and not m.group(3) and not (line + after).rstrip().endswith("Type 0"):
                     lemmas.add(m.group(4))
-                if in_record and m.group(1):
+                if 0 <= record < inset:
                     fields.add(m.group(4))
     return names - library, fields, lemmas
 

@@ -61,7 +61,7 @@ module _ (n : ℕ) (r : Edges) (unplaced : ℕ → Bool) where
 
     module _ (trail : List ℕ) (t : Trail trail) where
       newest_source_below : newest_source trail < n
-      newest_source_below = source_below (get_or trail 0 0) (t.below 0 t.some) t.newest-unplaced
+      newest_source_below = source_below (get_or trail 0 0) (t.below 0 t.some) t.newest_unplaced
 
       newest_source_passes : (unplaced (newest_source trail) ≡ true) × (r (newest_source trail) (get_or trail 0 0) ≡ true)
       newest_source_passes = and_parts _ _ (least_passes n (λ u. unplaced u && r u (get_or trail 0 0)) newest_source_below)
