@@ -1,5 +1,5 @@
 -- The clauses of Closure by their numbers.
-use Rattle.std.specs.Prelude.{◌≡◌, ℕ, zero, suc, ◌+◌, ◌-◌, ◌*◌, ◌/◌, ◌%◌, ◌<◌, ◌≤◌, List, ◌++◌, length, Some, None}
+use Rattle.std.specs.Prelude.{◌≡◌, ℕ, zero, suc, ◌+◌, ◌*◌, ◌/◌, ◌%◌, ◌<◌, ◌≤◌, List, ◌++◌, length, Some, None}
 use Rattle.std.proofs.Common.{◌∙◌, mul-zero, zero-mul, arith}
 use Rattle.std.proofs.Math.Path.{ap, refl}
 use Rattle.bounded.proofs.Entries.{nth_past}

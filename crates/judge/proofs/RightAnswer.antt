@@ -1,9 +1,7 @@
 -- Every answer of the judge is right.
-use Rattle.std.proofs.Common.{◌≡◌, ℕ, ◌+◌, ◌-◌, ◌*◌, ◌/◌, ◌%◌, ◌<◌, ◌≤◌, Bool, true, false, cond, ltb, ◌⊎◌, List, [], length, get_or, is_ok, Some, None, Ok, Err, Option, Result, sym, refl, ap, ◌∙◌, subst, inl, inr, add-mul, arith}
-use Rattle.graph.specs.Counts.{least}
-use Rattle.graph.specs.Orders.{IsOrder, IsRing}
-use Rattle.graph.specs.Walks.{Edge, Edges, Inside}
-use Rattle.graph.specs.Walks as graph
+use Rattle.std.proofs.Common.{◌≡◌, ℕ, ◌+◌, ◌-◌, ◌*◌, ◌/◌, ◌%◌, ◌<◌, ◌≤◌, true, false, ltb, ◌⊎◌, List, length, get_or, is_ok, Some, None, Ok, Err, Option, Result, sym, refl, ap, ◌∙◌, subst, inl, inr, add-mul, arith}
+use Rattle.graph.specs.Orders.{IsRing}
+use Rattle.graph.specs.Walks.{Inside}
 use Rattle.graph.proofs.Counts.{least_none, least_passes}
 use Rattle.graph.proofs.Orders.{order_law}
 use Rattle.sheet.specs.Tables.{Joins, Table}
@@ -20,9 +18,8 @@ use Rattle.judge.specs.Values.{first_unknown, first_unknown_pair, is_known, is_o
 use Rattle.judge.specs.Verdict.{after, answered, found, found_nodes, found_pipes, is_stuck, ring_pipe, ring_pipes}
 use Rattle.judge.specs.Walking.{ring}
 use Rattle.judge.specs.declared.refusal.VerdictRefusal.{VerdictRefusal}
-use Rattle.judge.specs.declared.refusal.VerdictRefusal.TheVariants.{TooFewPlaces, TooFewValues, UnknownValve}
+use Rattle.judge.specs.declared.refusal.VerdictRefusal.TheVariants.{UnknownValve}
 use Rattle.judge.specs.declared.verdict.Verdict.{Verdict}
-use Rattle.judge.specs.declared.verdict.Verdict.TheVariants.{Order, Ring}
 use Rattle.judge.proofs.OrderLaw.{order_right}
 use Rattle.judge.proofs.RingLaw.{ring_right}
 use Rattle.judge.proofs.Unknown.{told, untold}

@@ -1,5 +1,5 @@
 -- The pipes of a ring, listed one by one.
-use Rattle.std.proofs.Common.{◌≡◌, ℕ, ◌+◌, ◌-◌, ◌<◌, ◌≤◌, cond, List, [], ◌∷◌, ◌++◌, map, length, get_or, take, set, unwrap_or, refl, ap, arith}
+use Rattle.std.proofs.Common.{◌≡◌, ℕ, ◌+◌, ◌-◌, ◌<◌, ◌≤◌, List, map, length, get_or, take, set, unwrap_or, refl, ap, arith}
 use Rattle.sheet.specs.Tables.{Table, entry}
 use Rattle.sheet.specs.declared.pipe.Pipe.{Pipe}
 use Rattle.std.proofs.lemmas.List.FromFn.{map-range_with_len_more}

@@ -1,16 +1,14 @@
 -- A verdict depends on the nodes, the pipes drawn and the values of the valves alone.
-use Rattle.std.proofs.Common.{◌≡◌, ℕ, ◌-◌, ◌*◌, ◌<◌, ◌≤◌, Bool, true, cond, not, ◌&&◌, ltb, leb, List, length, get_or, Some, None, Option, sym, refl, ap, ◌∙◌, inl, inr, arith}
-use mathlib.Core.Path.{fun_ext}
-use Rattle.graph.specs.Walks.{Edges}
+use Rattle.std.proofs.Common.{◌≡◌, ℕ, ◌-◌, ◌*◌, ◌<◌, ◌≤◌, Bool, cond, not, ◌&&◌, ltb, List, get_or, Some, None, sym, refl, ap, ◌∙◌, inl, inr, arith}
 use Rattle.graph.proofs.Counts.{least_same}
 use Rattle.sheet.specs.Tables.{Table, Upto}
-use Rattle.sheet.specs.View.{View, view}
+use Rattle.sheet.specs.View.{view}
 use Rattle.sheet.specs.declared.place.Sheet.{Sheet}
 use Rattle.std.proofs.lemmas.Bool.{and_from, cases_lt, le-leb, le-ltb}
 use Rattle.std.specs.Option.{option_map}
-use Rattle.judge.specs.Rightness.{Alike, IndependenceLaw, SameFindings}
-use Rattle.judge.specs.Values.{first_unknown, first_unknown_pair, is_known, is_open, is_unknown, opens, pair_valve, value}
-use Rattle.judge.specs.Verdict.{Enough, answered, found, found_nodes, found_pipes, judge_refusal, verdict_answer}
+use Rattle.judge.specs.Rightness.{IndependenceLaw}
+use Rattle.judge.specs.Values.{first_unknown, first_unknown_pair, is_known, is_open, opens, pair_valve, value}
+use Rattle.judge.specs.Verdict.{Enough, answered, found, found_nodes, found_pipes, verdict_answer}
 use Rattle.judge.specs.declared.refusal.VerdictRefusal.TheVariants.{UnknownValve}
 
 -- values that agree on the valves up to top

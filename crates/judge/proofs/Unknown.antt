@@ -1,5 +1,5 @@
 -- The search for the first valve whose byte tells no position.
-use Rattle.std.proofs.Common.{◌≡◌, ℕ, ◌*◌, ◌<◌, ◌≤◌, Bool, true, false, cond, ltb, List, Some, None, Option, refl, ap, arith}
+use Rattle.std.proofs.Common.{◌≡◌, ℕ, ◌*◌, ◌<◌, ◌≤◌, Bool, true, false, cond, ltb, List, Some, None, refl, ap, arith}
 use Rattle.graph.specs.Counts.{least}
 use Rattle.graph.proofs.Counts.{least_end, least_found}
 use Rattle.sheet.specs.Tables.{Table}

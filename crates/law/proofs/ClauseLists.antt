@@ -5,7 +5,7 @@ use Rattle.cnf.specs.Clauses.{Clause, minus, variable}
 use Rattle.law.proofs.GivenInTurn.{Free, arc_at, planned_in_turn, planned_numbered}
 use Rattle.law.proofs.ImplicationRows.{and_true, for_each_kept, for_each_like, implications_listed, implications_mapped, kept_none, one}
 use Rattle.law.proofs.ImplicationRows.{pairs_pass}
-use Rattle.law.specs.ClauseLists.{AboveValves, ClauseLaw, EliminationLists, EliminationRight, StartLists, bridge_clause, for_each, pipe_clause, those}
+use Rattle.law.specs.ClauseLists.{AboveValves, ClauseLaw, EliminationLists, StartLists, bridge_clause, for_each, pipe_clause, those}
 use Rattle.law.specs.Encoding.{Fresh}
 use Rattle.sheet.proofs.Pairs.{pairs_with_all, planned_gives}
 use Rattle.sheet.specs.Eliminating.{bridged, elimination_clauses, way_through}

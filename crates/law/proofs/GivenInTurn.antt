@@ -1,5 +1,5 @@
 -- Arcs that are given to the pairs of a list, one after the other: what was there stays, and the new ones are numbered in turn.
-use Rattle.std.proofs.Common.{◌≡◌, ℕ, zero, suc, ◌+◌, ◌*◌, ◌/◌, ◌<◌, ◌≤◌, Bool, ◌⊎◌, List, [], ◌∷◌, map, length, filter, sym, refl, ap, ◌∙◌, subst, inl, inr, arith}
+use Rattle.std.proofs.Common.{◌≡◌, ℕ, zero, suc, ◌+◌, ◌*◌, ◌/◌, ◌<◌, Bool, List, [], ◌∷◌, map, length, filter, sym, refl, ap, ◌∙◌, subst, inl, inr, arith}
 use Rattle.law.specs.ClauseLists.{Earlier, GivenInTurn}
 use Rattle.sheet.proofs.Pairs.{given, given_keeps, with_arc_cases, with_arcs_keeps, with_arcs_next}
 use Rattle.sheet.proofs.Tables.{put_cases}

@@ -1,5 +1,5 @@
 -- Entries that are on, and implications that are met.
-use Rattle.std.proofs.Common.{◌≡◌, ℕ, ◌<◌, true, false, cond, eqb, ltb, List, [], ◌∷◌, ◌++◌, map, pos, inl, inr, arith}
+use Rattle.std.proofs.Common.{◌≡◌, ℕ, ◌<◌, true, cond, eqb, ltb, List, [], ◌∷◌, ◌++◌, map, pos, inl, inr}
 use Rattle.cnf.specs.Clauses.{Clause, minus}
 use Rattle.cnf.specs.Satisfaction.{Meets, Values}
 use Rattle.cnf.proofs.Satisfied.{holds_minus, holds_pos, meets_cases, meets_first, meets_later, meets_none, minus_holds, pos_holds}

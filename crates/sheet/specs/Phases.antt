@@ -2,7 +2,7 @@
 --     is_drawing f    pipes can be drawn in the phase
 --     is_closing f    nodes can be eliminated in the phase
 --     is_fresh f      no start has been accepted yet
-use Rattle.std.specs.Prelude.{Bool, true, false, not}
+use Rattle.std.specs.Prelude.{Bool, true, false}
 use Rattle.sheet.specs.declared.phase.Phase.{Phase}
 use Rattle.sheet.specs.declared.phase.Phase.TheVariants.{Closing, Drawing, Unmade}
 

@@ -10,7 +10,7 @@ use Rattle.std.specs.Prelude.{◌≡◌, ℕ, cond, ◌&&◌, List, [], ◌∷�
 use Rattle.cnf.specs.Clauses.{Clause}
 use Rattle.cnf.specs.States.{State}
 use Rattle.cnf.specs.Writing.{write_refusal}
-use Rattle.sheet.specs.Implications.{Arcs, Premises, implications, planned}
+use Rattle.sheet.specs.Implications.{Premises, implications, planned}
 use Rattle.sheet.specs.Phases.{is_drawing}
 use Rattle.sheet.specs.Refusals.{unless}
 use Rattle.sheet.specs.Tables.{Table}

@@ -1,10 +1,10 @@
 -- Laws of clauses that lie one behind the other.
 use Rattle.std.proofs.Common.{◌≡◌, ℕ, zero, suc, ◌+◌, ◌-◌, ◌<◌, ◌≤◌, min, Bool, true, false, cond, ◌||◌, eqb, ltb, List, [], ◌∷◌, ◌++◌, map, length, get_or, take, drop, set, Some, None, Option, sym, refl, ap, ◌∙◌, subst, add_assoc, zero-add, arith, length-append, length-drop, length-take}
-use Rattle.std.proofs.lemmas.List.{append_assoc, drop-set-lt, length-set, length-take-le, take_more_set, take_all, take_at, drop_at, drop-append-le, drop-drop, take-append-le, get_or-drop, get_or-take}
+use Rattle.std.proofs.lemmas.List.{append_assoc, drop-set-lt, length-set, length-take-le, take_more_set, take_all, take_at, drop_at, drop-append-le, drop-drop, take-append-le, get_or-take}
 use Rattle.std.specs.Option.{option_map}
 use Rattle.bounded.specs.Lists.{nth}
 use Rattle.cnf.specs.Clauses.{Clause, bad_length, has_bad_literal}
-use Rattle.cnf.specs.States.{State, add_refusal, added, form_refusal}
+use Rattle.cnf.specs.States.{add_refusal, added, form_refusal}
 use Rattle.cnf.specs.declared.refusal.SinkRefusal.{SinkRefusal}
 use Rattle.cnf.specs.declared.refusal.SinkRefusal.TheVariants.{Length, Literal, Room}
 use Rattle.sinks.specs.Table.{behind, cut, joined, laid, lengths, part, sum, table_cost, table_state}

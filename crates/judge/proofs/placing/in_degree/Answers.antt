@@ -1,4 +1,4 @@
-use Rattle.std.proofs.Common.{◌≡◌, ℕ, sym, arith}
+use Rattle.std.proofs.Common.{sym, arith}
 use Rattle.graph.proofs.Counts.{count_zero}
 use Rattle.judge.proofs.Steps.{count_in, count_out}
 use Rattle.judge.proofs.placing.in_degree.Goals as goal

@@ -1,8 +1,8 @@
-use Rattle.std.proofs.Common.{◌≡◌, map, length, get_or, take, unwrap_or, refl, ap, ◌∙◌, arith}
+use Rattle.std.proofs.Common.{◌≡◌, unwrap_or, refl, ap, ◌∙◌, arith}
 use Rattle.sheet.specs.View.{view}
 use Rattle.std.proofs.lemmas.List.{length-set}
 use Rattle.std.proofs.lemmas.Bool.{le-ltb, lt-ltb}
-use Rattle.judge.specs.Verdict.{after, ring_pipes}
+use Rattle.judge.specs.Verdict.{after}
 use Rattle.judge.proofs.RingPipes.{pipes_all, pipes_more, ring_pipe_is}
 use Rattle.judge.proofs.verdict.list_pipes.Goals as goal
 use Rattle.judge.proofs.verdict.list_pipes.Goals.{else-k-ring, then-k-ring}

@@ -1,4 +1,4 @@
-use Rattle.std.proofs.Common.{ap, ◌∙◌, arith, rules}
+use Rattle.std.proofs.Common.{ap, ◌∙◌, arith}
 use Rattle.graph.specs.Counts.{place}
 use Rattle.std.proofs.lemmas.Slice.{between_to_end}
 use Rattle.judge.proofs.Walks.{walk_found, walk_none, walking_more, walking_none}

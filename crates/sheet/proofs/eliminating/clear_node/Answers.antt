@@ -1,4 +1,4 @@
-use Rattle.std.proofs.Common.{◌≡◌, set, ◌∙◌, arith, rules}
+use Rattle.std.proofs.Common.{set, ◌∙◌, arith, rules}
 use Rattle.std.proofs.lemmas.List.{length-set}
 use Rattle.sheet.specs.Tables.{table}
 use Rattle.sheet.proofs.Cleared.{cleared_all, cleared_more, cleared_none}

@@ -1,8 +1,7 @@
-use Rattle.std.proofs.Common.{◌≡◌, ◌+◌, ◌^◌, ◌<◌, ◌≤◌, List, ◌++◌, map, sym, refl, ap, ◌∙◌, arith, rules}
-use Rattle.cnf.specs.Clauses.{Clause}
+use Rattle.std.proofs.Common.{◌≡◌, ◌++◌, map, ap, ◌∙◌, arith}
 use Rattle.cnf.specs.Writing.{write_refusal, written}
 use Rattle.std.proofs.lemmas.Result.{err_from_is_err_and}
-use Rattle.sheet.specs.Implications.{Arcs, implications}
+use Rattle.sheet.specs.Implications.{implications}
 use Rattle.sheet.specs.Plans.{plan_arcs, plan_pairs}
 use Rattle.sheet.specs.Tables.{table}
 use Rattle.sheet.specs.View.{arcs_of, view}
@@ -22,8 +21,8 @@ invariant_of-planned g c =
     record {
       count_few = e.count;
       arcs_small =
-        λ u w. let b = below_planned _ s.nodes (arcs_of (view s)) s.arcs_below (plan_arcs c.new-plan.result) e.arcs u w in
-            omega (arith, e.next, s.next_few);
+          λ u w. let b = below_planned _ s.nodes (arcs_of (view s)) s.arcs_below (plan_arcs c.new-plan.result) e.arcs u w in
+          omega (arith, e.next, s.next_few);
     }
 
 -- what the plan tells

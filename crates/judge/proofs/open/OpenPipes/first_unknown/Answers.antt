@@ -1,4 +1,4 @@
-use Rattle.std.proofs.Common.{sym, ap, ◌∙◌}
+use Rattle.std.proofs.Common.{ap, ◌∙◌}
 use Rattle.graph.proofs.Counts.{least_more, least_zero}
 use Rattle.judge.specs.Values.{first_unknown}
 use Rattle.sheet.specs.View.{view}

@@ -1,5 +1,5 @@
 use Rattle.std.proofs.Common.{◌≡◌, ◌*◌, ◌≤◌, [], ◌∷◌, ◌++◌, length, sym, ap, ◌∙◌, subst, arith}
-use Rattle.sheet.specs.Implications.{Arcs, are_there, has_premises, pair_at, with_arc, with_arcs}
+use Rattle.sheet.specs.Implications.{Arcs, are_there, pair_at, with_arc, with_arcs}
 use Rattle.sheet.specs.Plans.{plan_arcs, plan_pairs}
 use Rattle.sheet.specs.Tables.{table}
 use Rattle.sheet.specs.declared.implications.Plan.{Plan}

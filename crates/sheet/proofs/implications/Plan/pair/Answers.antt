@@ -1,4 +1,4 @@
-use Rattle.std.proofs.Common.{◌≡◌, length, take, sym, arith, length-take, rules}
+use Rattle.std.proofs.Common.{take, sym, arith, length-take, rules}
 use Rattle.bounded.proofs.Entries.{nth_front, nth_past}
 use Rattle.sheet.proofs.implications.Plan.pair.Goals as goal
 

@@ -1,4 +1,4 @@
-use Rattle.std.proofs.Common.{◌≡◌, sym, ◌∙◌, rules}
+use Rattle.std.proofs.Common.{sym, ◌∙◌, rules}
 use Rattle.std.proofs.lemmas.List.{length-map, length-take-le}
 use Rattle.sheet.specs.Plans.{plan_pairs}
 use Rattle.sheet.specs.Tables.{table}

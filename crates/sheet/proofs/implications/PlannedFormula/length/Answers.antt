@@ -1,4 +1,4 @@
-use Rattle.std.proofs.Common.{◌≡◌, ℕ, ◌+◌, length, Some, None, ap, ◌∙◌, rules}
+use Rattle.std.proofs.Common.{ℕ, ◌+◌, length, Some, None, ap, ◌∙◌, rules}
 use Rattle.sheet.specs.Plans.{plan_pairs}
 use Rattle.sheet.specs.Tables.{table}
 use Rattle.sheet.proofs.Told.{clause_at, length_at_one, length_at_two, lengths_told}

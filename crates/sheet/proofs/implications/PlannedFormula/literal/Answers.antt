@@ -1,4 +1,4 @@
-use Rattle.std.proofs.Common.{◌≡◌, ℕ, ◌^◌, ◌<◌, [], length, get_or, pos, Some, None, sym, ap, ◌∙◌, inl, inr, arith, w32, rules}
+use Rattle.std.proofs.Common.{◌^◌, ◌<◌, length, pos, Some, sym, ap, ◌∙◌, inl, inr, arith, w32, rules}
 use Rattle.bounded.specs.Lists.{nth}
 use Rattle.std.proofs.lemmas.Int.{to_z_pos}
 use Rattle.sheet.specs.Plans.{plan_pairs}

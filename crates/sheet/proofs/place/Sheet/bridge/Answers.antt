@@ -1,4 +1,4 @@
-use Rattle.std.proofs.Common.{◌≡◌, true, false, T, length, get_or, set, sym, subst, arith, rules}
+use Rattle.std.proofs.Common.{◌≡◌, true, T, length, set, sym, subst, arith, rules}
 use Rattle.std.proofs.lemmas.Bool.{and_parts, ltb-true}
 use Rattle.sheet.specs.Eliminating.{way_through}
 use Rattle.sheet.specs.Implications.{Arcs}

@@ -1,5 +1,5 @@
-use Rattle.std.proofs.Common.{◌≡◌, ◌<◌, length, sym, refl, ◌∙◌, subst, arith, rules}
-use Rattle.sheet.specs.Tables.{Joins, Table, Upto, put, table}
+use Rattle.std.proofs.Common.{◌≡◌, length, sym, refl, subst, arith, rules}
+use Rattle.sheet.specs.Tables.{Joins, Upto}
 use Rattle.sheet.specs.View.{view}
 use Rattle.sheet.proofs.Drawn.{drawable, drawn_view}
 use Rattle.sheet.proofs.Tables.{joins_put, table_set, upto_put}

@@ -1,4 +1,4 @@
-use Rattle.std.proofs.Common.{◌≡◌, false, not, T, get_or, sym, subst, arith}
+use Rattle.std.proofs.Common.{false, not, T, get_or, sym, subst, arith}
 use Rattle.std.proofs.lemmas.Bool.{and_parts, ltb-true}
 use Rattle.sheet.specs.Implications.{Arcs}
 use Rattle.sheet.specs.Phases.{is_fresh}

@@ -1,4 +1,4 @@
-use Rattle.std.proofs.Common.{ℕ, ◌+◌, get_or, pos, Some, sym, refl, ap, ◌∙◌, arith, w32, SFits, rules}
+use Rattle.std.proofs.Common.{◌+◌, get_or, pos, Some, sym, refl, ap, ◌∙◌, arith, w32, SFits, rules}
 use Rattle.bounded.specs.Lists.{nth}
 use Rattle.std.proofs.lemmas.Int.{to_z-of_z}
 use Rattle.sinks.proofs.Tables.{get_or_cut, get_or_cut_none, nth_among, nth_behind, nth_part, nth_part_past, pair_within}
