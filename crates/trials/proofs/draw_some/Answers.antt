@@ -20,7 +20,7 @@ loop-preserved c =
     let t = (view c.args.sheet.now).pipe in (
       elim c.match-draw.branch [
         | in-Ok w ↦ w.token-is ∙ w.in-Ok.ensures.token ∙ inv.0
-        | in-Err w ↦ w.token-is ∙ w.in-Err.token-is ∙ w.in-Err.ensures.token ∙ inv.0
+        | in-Err w ↦ w.token-is ∙ w.in-Err.ensures.token ∙ inv.0
       ],
       ap (λ (s : View). with_pipes s t) c.draw.ensures.after ∙ pipes_alone (view c.loop.sheet) _ _ t ∙ inv.1,
     )
