@@ -9,7 +9,7 @@ use Rattle.graph.specs.Walks.{Ringless, Walk, more, one}
 use Rattle.std.proofs.lemmas.Nat.{div-mul-add, mod-mul-add, mul-add-lt}
 use Rattle.std.proofs.ByRecursion.{All-append}
 use Rattle.std.proofs.lemmas.Bool.{cases_Bool, le-ltb, lt-ltb, ltb-true}
-use Rattle.std.specs.List.{AllByRecursion as All}
+use Rattle.std.specs.List.{AllByRecursion}
 use Rattle.closings.specs.ClosureClauses.{arc_before, closure_adds, closure_clauses, closure_y, never_itself, transitive}
 use Rattle.closings.specs.Inputs.{Chosen, Input, Lawful, arc_at, arc_count}
 use Rattle.closings.specs.Law.{Closes, Extends, Own, Small, Uses}
@@ -35,16 +35,16 @@ module _ (P : Clause → Type 0) (x : Input) where
 
   all_closure
       : ((i : ℕ) → i < r → P (never_itself x i)) → ((i j k : ℕ) → i < r → j < r → k < r → P (transitive x i j k))
-      → ((a : ℕ) → a < arc_count x → P (arc_before x a)) → All P (closure_clauses x)
+      → ((a : ℕ) → a < arc_count x → P (arc_before x a)) → AllByRecursion P (closure_clauses x)
   unfolding closure_clauses row
   all_closure f g h =
-      let square : (i : ℕ) → i < r → All P (each r (row i)) =
+      let square : (i : ℕ) → i < r → AllByRecursion P (each r (row i)) =
       λ i p. all_each P (row i) r (λ j q. all_upto P (λ k. transitive x i j k) r (λ k s. g i j k p q s)) in
       All-append P _ _ (all_upto P (never_itself x) r f)
       (All-append P _ _ (all_each P (λ i. each r (row i)) r square) (all_upto P (arc_before x) (arc_count x) h))
 
-  module _ (all : All P (closure_clauses x)) where
-    rest : All P (through ++ upto (arc_count x) (arc_before x))
+  module _ (all : AllByRecursion P (closure_clauses x)) where
+    rest : AllByRecursion P (through ++ upto (arc_count x) (arc_before x))
     unfolding closure_clauses through row
     rest = all_right P (upto r (never_itself x)) _ all
 
@@ -68,7 +68,7 @@ module _ (x : Input) (law : Lawful x) where
 
   -- where the clauses are met, y holds along every walk, so no walk is a ring
   module _ (σ τ : Values) (ext : Extends x (closure_adds x) σ τ) (sat : Sat τ (closure_clauses x)) where
-    met : All (Meets τ) (closure_clauses x)
+    met : AllByRecursion (Meets τ) (closure_clauses x)
     met = sat_all τ (closure_clauses x) sat
 
     arc_in_y : (i j : ℕ) → Chosen x σ i j → τ (closure_y x i j) ≡ true
@@ -174,7 +174,7 @@ closure_closes x law σ =
 
 pub closure_uses : (x : Input) → Lawful x → Uses x (closure_adds x) (closure_clauses x)
 closure_uses x law =
-    all_closure (All (Own x (closure_adds x))) x
+    all_closure (AllByRecursion (Own x (closure_adds x))) x
     (λ i h. (own_minus i i h h, tt))
     (λ i j k p q s. (own_minus i j p q, (own_minus j k q s, (own_pos i k p s, tt))))
     (λ a h. (

@@ -10,7 +10,7 @@ use Rattle.cnf.specs.Clauses.{Clause, variable}
 use Rattle.cnf.specs.Satisfaction.{Sat, Values}
 use Rattle.closings.specs.Inputs.{Chosen, Input, arc_at, arc_count}
 use Rattle.graph.specs.Walks.{Ringless}
-use Rattle.std.specs.List.{AllByRecursion as All}
+use Rattle.std.specs.List.{AllByRecursion}
 
 abbrev pub Extends : Input → ℕ → Values → Values → Type 0
 Extends x m σ τ = (v : ℕ) → (v < x.first) ⊎ (x.first + m ≤ v) → τ v ≡ σ v
@@ -24,9 +24,9 @@ Own x m z =
     ⊎ ((x.first ≤ variable z) × (variable z < x.first + m))
 
 abbrev pub Uses : Input → ℕ → List Clause → Type 0
-Uses x m cs = All (All (Own x m)) cs
+Uses x m cs = AllByRecursion (AllByRecursion (Own x m)) cs
 
 pub record Small (m : ℕ) (cs : List Clause) : Type 0 where
   pub added : m ≤ 300000
   pub clauses : length cs ≤ 600000
-  pub sizes : All (λ c. (1 ≤ length c) × (length c ≤ 64)) cs
+  pub sizes : AllByRecursion (λ c. (1 ≤ length c) × (length c ≤ 64)) cs

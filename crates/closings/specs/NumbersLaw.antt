@@ -12,7 +12,7 @@ use Rattle.graph.specs.Walks.{Ringless}
 use Rattle.std.proofs.lemmas.Nat.{mod_below, mul-le, pow_pos}
 use Rattle.std.proofs.ByRecursion.{All-append}
 use Rattle.std.proofs.lemmas.Bool.{cases_Bool, false≢true, lt-ltb, ltb-true}
-use Rattle.std.specs.List.{AllByRecursion as All}
+use Rattle.std.specs.List.{AllByRecursion}
 use Rattle.closings.specs.Inputs.{Chosen, Input, Lawful, arc_at, arc_count}
 use Rattle.closings.specs.Law.{Closes, Extends, Own, Small, Uses}
 use Rattle.closings.specs.NumbersClauses.{all_rise, bit_rises, low_enters, low_leaves, rest_enters, rest_leaves}
@@ -38,11 +38,11 @@ record OfArc (P : Clause → Type 0) (x : Input) (a : ℕ) : Type 0 where
   at_all_rise : P (all_rise x a)
 
 module _ (P : Clause → Type 0) (x : Input) where
-  all_of_arc : (a : ℕ) → OfArc P x a → All P (numbers_of_arc x a)
+  all_of_arc : (a : ℕ) → OfArc P x a → AllByRecursion P (numbers_of_arc x a)
   unfolding of_bit
   all_of_arc a h = (h.at_low_leaves, (h.at_low_enters, All-append P _ _ bits (h.at_all_rise, tt)))
     where
-      bits : All P (each (bits_for x.nodes - 1) (of_bit x a))
+      bits : AllByRecursion P (each (bits_for x.nodes - 1) (of_bit x a))
       bits =
           all_each P (of_bit x a) (bits_for x.nodes - 1) (λ t l. (
             h.at_bit_rises (t + 2) (omega arith) (omega arith),
@@ -52,7 +52,7 @@ module _ (P : Clause → Type 0) (x : Input) where
             ),
           ))
 
-  of_arc_all : (a : ℕ) → All P (numbers_of_arc x a) → OfArc P x a
+  of_arc_all : (a : ℕ) → AllByRecursion P (numbers_of_arc x a) → OfArc P x a
   unfolding of_bit
   of_arc_all a h =
       record {
@@ -67,16 +67,16 @@ module _ (P : Clause → Type 0) (x : Input) where
       back : (k : ℕ) → 2 ≤ k → k - 2 + 2 ≡ k
       back k l = omega arith
 
-      of : (k : ℕ) → 2 ≤ k → k ≤ bits_for x.nodes → All P (of_bit x a (k - 2))
+      of : (k : ℕ) → 2 ≤ k → k ≤ bits_for x.nodes → AllByRecursion P (of_bit x a (k - 2))
       of k l m =
           let n = bits_for x.nodes - 1 in
           each_all P (of_bit x a) n (all_left P (each n (of_bit x a)) _ h.1.1) (k - 2) (omega arith)
 
-  all_numbers : ((a : ℕ) → a < arc_count x → OfArc P x a) → All P (numbers_clauses x)
+  all_numbers : ((a : ℕ) → a < arc_count x → OfArc P x a) → AllByRecursion P (numbers_clauses x)
   unfolding numbers_clauses
   all_numbers h = all_each P (numbers_of_arc x) (arc_count x) (λ a l. all_of_arc a (h a l))
 
-  numbers_all : All P (numbers_clauses x) → (a : ℕ) → a < arc_count x → OfArc P x a
+  numbers_all : AllByRecursion P (numbers_clauses x) → (a : ℕ) → a < arc_count x → OfArc P x a
   unfolding numbers_clauses
   numbers_all h a l = of_arc_all a (each_all P (numbers_of_arc x) (arc_count x) h a l)
 
@@ -313,9 +313,9 @@ numbers_closes x law σ = (
 )
 
 pub numbers_uses : (x : Input) → Lawful x → Uses x (numbers_adds x) (numbers_clauses x)
-numbers_uses x law = all_numbers (All (Own x (numbers_adds x))) x of
+numbers_uses x law = all_numbers (AllByRecursion (Own x (numbers_adds x))) x of
   where
-    of : (a : ℕ) → a < arc_count x → OfArc (All (Own x (numbers_adds x))) x a
+    of : (a : ℕ) → a < arc_count x → OfArc (AllByRecursion (Own x (numbers_adds x))) x a
     of a h = record {
       at_low_leaves = (minus_t 1 (omega arith) bit, (minus_from 1 (omega arith) bit, tt));
       at_low_enters = (minus_t 1 (omega arith) bit, (pos_to 1 (omega arith) bit, tt));

@@ -7,7 +7,7 @@ use Rattle.std.proofs.lemmas.Nat.{div_below, mod_below}
 use Rattle.std.proofs.lemmas.List.FromFn.{get_or-range_with_len, get_or-map-range_with_len, length-range_with_len, length-map-range_with_len}
 use Rattle.std.proofs.ByRecursion.{All-append, All-from_get_or, All-get_or}
 use Rattle.std.proofs.lemmas.List.{length-append}
-use Rattle.std.specs.List.{range_with_len, flat_map, AllByRecursion as All}
+use Rattle.std.specs.List.{range_with_len, flat_map, AllByRecursion}
 use Rattle.closings.specs.Ranges.{each, upto}
 
 pub none≢some : {X : Type 0} {x : X} → ◌≡◌ {A = Option X} None (Some x) → ⊥
@@ -83,40 +83,40 @@ module _ {X : Type 0} where
 
   -- what holds of each element
   module _ (P : X → Type 0) where
-    pub all_left : (xs ys : List X) → All P (xs ++ ys) → All P xs
+    pub all_left : (xs ys : List X) → AllByRecursion P (xs ++ ys) → AllByRecursion P xs
     all_left [] ys h = tt
     all_left (x ∷ xs) ys h = (h.0, all_left xs ys h.1)
 
-    pub all_right : (xs ys : List X) → All P (xs ++ ys) → All P ys
+    pub all_right : (xs ys : List X) → AllByRecursion P (xs ++ ys) → AllByRecursion P ys
     all_right [] ys h = h
     all_right (x ∷ xs) ys h = all_right xs ys h.1
 
-    pub all_upto : (f : ℕ → X) (n : ℕ) → ((i : ℕ) → i < n → P (f i)) → All P (upto n f)
+    pub all_upto : (f : ℕ → X) (n : ℕ) → ((i : ℕ) → i < n → P (f i)) → AllByRecursion P (upto n f)
     all_upto f n h =
         All-from_get_or P (upto n f) (f 0) (λ i l.
         let k : i < n = omega (arith, length_upto f n) in subst P (sym (get_or_upto f n i (f 0) k)) (h i k))
 
-    pub upto_all : (f : ℕ → X) (n : ℕ) → All P (upto n f) → (i : ℕ) → i < n → P (f i)
+    pub upto_all : (f : ℕ → X) (n : ℕ) → AllByRecursion P (upto n f) → (i : ℕ) → i < n → P (f i)
     upto_all f n h i l =
         subst P (get_or_upto f n i (f 0) l) (All-get_or P (upto n f) i (f 0) (omega (arith, length_upto f n)) h)
 
-    all_joined : (f : ℕ → List X) (is : List ℕ) → All (λ i. All P (f i)) is → All P (flat_map f is)
+    all_joined : (f : ℕ → List X) (is : List ℕ) → AllByRecursion (λ i. AllByRecursion P (f i)) is → AllByRecursion P (flat_map f is)
     all_joined f [] h = tt
     all_joined f (i ∷ is) h = All-append P (f i) (flat_map f is) h.0 (all_joined f is h.1)
 
-    joined_all : (f : ℕ → List X) (is : List ℕ) → All P (flat_map f is) → All (λ i. All P (f i)) is
+    joined_all : (f : ℕ → List X) (is : List ℕ) → AllByRecursion P (flat_map f is) → AllByRecursion (λ i. AllByRecursion P (f i)) is
     joined_all f [] h = tt
     joined_all f (i ∷ is) h = (all_left (f i) (flat_map f is) h, joined_all f is (all_right (f i) (flat_map f is) h))
 
-    pub all_each : (f : ℕ → List X) (n : ℕ) → ((i : ℕ) → i < n → All P (f i)) → All P (each n f)
+    pub all_each : (f : ℕ → List X) (n : ℕ) → ((i : ℕ) → i < n → AllByRecursion P (f i)) → AllByRecursion P (each n f)
     all_each f n h =
-        all_joined f (range_with_len 0 n) (All-from_get_or (λ i. All P (f i)) (range_with_len 0 n) 0 (λ i l.
+        all_joined f (range_with_len 0 n) (All-from_get_or (λ i. AllByRecursion P (f i)) (range_with_len 0 n) 0 (λ i l.
         let k : i < n = omega (arith, length-range_with_len 0 n) in
         let e : get_or (range_with_len 0 n) i 0 ≡ i = omega (arith, get_or-range_with_len 0 n i 0 k) in
-        subst (λ (j : ℕ). All P (f j)) (sym e) (h i k)))
+        subst (λ (j : ℕ). AllByRecursion P (f j)) (sym e) (h i k)))
 
-    pub each_all : (f : ℕ → List X) (n : ℕ) → All P (each n f) → (i : ℕ) → i < n → All P (f i)
+    pub each_all : (f : ℕ → List X) (n : ℕ) → AllByRecursion P (each n f) → (i : ℕ) → i < n → AllByRecursion P (f i)
     each_all f n h i l =
         let e : get_or (range_with_len 0 n) i 0 ≡ i = omega (arith, get_or-range_with_len 0 n i 0 l) in
-        subst (λ (j : ℕ). All P (f j)) e
-        (All-get_or (λ j. All P (f j)) (range_with_len 0 n) i 0 (omega (arith, length-range_with_len 0 n)) (joined_all f (range_with_len 0 n) h))
+        subst (λ (j : ℕ). AllByRecursion P (f j)) e
+        (All-get_or (λ j. AllByRecursion P (f j)) (range_with_len 0 n) i 0 (omega (arith, length-range_with_len 0 n)) (joined_all f (range_with_len 0 n) h))

@@ -10,7 +10,7 @@ use Rattle.graph.specs.Walks.{Ringless, Walk, more, one}
 use Rattle.std.proofs.lemmas.Nat.{mul-le}
 use Rattle.std.proofs.ByRecursion.{All-append}
 use Rattle.std.proofs.lemmas.Bool.{and_from, and_left, and_right, both_ways, cases_Bool, cases_lt, le-leb, leb-true, lt-leb, not_from_false, not_from_true}
-use Rattle.std.specs.List.{AllByRecursion as All}
+use Rattle.std.specs.List.{AllByRecursion}
 use Rattle.closings.specs.Inputs.{Chosen, Input, Lawful, arc_at, arc_count}
 use Rattle.closings.specs.Law.{Closes, Extends, Own, Small, Uses}
 use Rattle.closings.specs.Ranges.{each, upto}
@@ -30,7 +30,7 @@ module _ (P : Clause → Type 0) (x : Input) where
   all_steps
       : ((i k : ℕ) → i < x.nodes → 2 ≤ k → k < x.nodes → P (label_rises x i k))
       → ((a k : ℕ) → a < arc_count x → 1 ≤ k → k < x.nodes → P (step_leaves x a k) × P (step_enters x a k))
-      → ((a : ℕ) → a < arc_count x → P (some_step x a)) → All P (steps_clauses x)
+      → ((a : ℕ) → a < arc_count x → P (some_step x a)) → AllByRecursion P (steps_clauses x)
   unfolding steps_clauses
   all_steps f g h =
       All-append P _ _
@@ -42,7 +42,7 @@ module _ (P : Clause → Type 0) (x : Input) where
       let b = g a (t + 1) p (omega arith) (omega arith) in (b.0, (b.1, tt))))
       (h a p, tt)))
 
-  module _ (all : All P (steps_clauses x)) where
+  module _ (all : AllByRecursion P (steps_clauses x)) where
     at_rises : (i k : ℕ) → i < x.nodes → 2 ≤ k → k < x.nodes → P (label_rises x i k)
     unfolding steps_clauses
     at_rises i k p l m =
@@ -52,7 +52,7 @@ module _ (P : Clause → Type 0) (x : Input) where
         subst (λ (t : ℕ). P (label_rises x i t)) e
         (upto_all P (λ t. label_rises x i (t + 2)) (x.nodes - 2) here (k - 2) (omega arith))
 
-    at_arc : (a : ℕ) → a < arc_count x → All P (steps_of_arc x a)
+    at_arc : (a : ℕ) → a < arc_count x → AllByRecursion P (steps_of_arc x a)
     unfolding steps_clauses
     at_arc a p =
         let row = λ (i : ℕ). upto (x.nodes - 2) (λ t. label_rises x i (t + 2)) in
@@ -79,7 +79,7 @@ module _ (x : Input) (law : Lawful x) where
 
   -- values that meet the clauses: every chosen arc, and so every walk, has a step that tells its ends apart
   module _ (σ τ : Values) (extends : Extends x (steps_adds x) σ τ) (sat : Sat τ (steps_clauses x)) where
-    met : All (Meets τ) (steps_clauses x)
+    met : AllByRecursion (Meets τ) (steps_clauses x)
     met = sat_all τ (steps_clauses x) sat
 
     up_one
@@ -294,7 +294,7 @@ steps_closes x law σ = (λ e. ringless x law σ e.0 e.1 e.2, found x law σ)
 
 pub steps_uses : (x : Input) → Lawful x → Uses x (steps_adds x) (steps_clauses x)
 steps_uses x law =
-    all_steps (All (Own x (steps_adds x))) x
+    all_steps (AllByRecursion (Own x (steps_adds x))) x
     (λ i k p l m.
     (own_minus_node x q i (k - 1) p (omega arith) (omega arith), (own_node x q i k p (omega arith) (omega arith), tt)))
     (λ a k p l m.

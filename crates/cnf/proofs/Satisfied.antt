@@ -4,7 +4,7 @@ use Rattle.cnf.specs.Clauses.{Clause, minus}
 use Rattle.cnf.specs.Satisfaction.{Holds, Meets, Sat, Values}
 use Rattle.std.proofs.ByRecursion.{All-append, All-from_get_or, All-get_or, All-map}
 use Rattle.std.proofs.lemmas.List.{get_or-append-add, get_or_append_left, length-append}
-use Rattle.std.specs.List.{AllByRecursion as All}
+use Rattle.std.specs.List.{AllByRecursion}
 
 -- a literal
 module _ (σ : Values) where
@@ -42,10 +42,10 @@ module _ (σ : Values) where
   meets_none m = omega (arith, m.within)
 
   -- a list of clauses
-  pub sat_all : (cs : List Clause) → Sat σ cs → All (Meets σ) cs
+  pub sat_all : (cs : List Clause) → Sat σ cs → AllByRecursion (Meets σ) cs
   sat_all cs h = All-from_get_or (Meets σ) cs [] h
 
-  pub all_sat : (cs : List Clause) → All (Meets σ) cs → Sat σ cs
+  pub all_sat : (cs : List Clause) → AllByRecursion (Meets σ) cs → Sat σ cs
   all_sat cs h k l = All-get_or (Meets σ) cs k [] l h
 
   pub sat_append : (cs ds : List Clause) → Sat σ cs → Sat σ ds → Sat σ (cs ++ ds)
@@ -59,12 +59,12 @@ module _ (σ : Values) where
   sat_right cs ds h k l =
       subst (Meets σ) (get_or-append-add cs ds k []) (h (length cs + k) (omega (arith, length-append cs ds)))
 
-  pub sat_map : {X : Type 0} (f : X → Clause) (xs : List X) → All (λ x. Meets σ (f x)) xs → Sat σ (map f xs)
+  pub sat_map : {X : Type 0} (f : X → Clause) (xs : List X) → AllByRecursion (λ x. Meets σ (f x)) xs → Sat σ (map f xs)
   sat_map f xs h = all_sat (map f xs) (All-map (Meets σ) f xs h)
 
-  pub map_sat : {X : Type 0} (f : X → Clause) (xs : List X) → Sat σ (map f xs) → All (λ x. Meets σ (f x)) xs
+  pub map_sat : {X : Type 0} (f : X → Clause) (xs : List X) → Sat σ (map f xs) → AllByRecursion (λ x. Meets σ (f x)) xs
   map_sat {X = X} f xs h = go xs (sat_all (map f xs) h)
     where
-      go : (xs : List X) → All (Meets σ) (map f xs) → All (λ x. Meets σ (f x)) xs
+      go : (xs : List X) → AllByRecursion (Meets σ) (map f xs) → AllByRecursion (λ x. Meets σ (f x)) xs
       go [] h = tt
       go (x ∷ xs) h = (h.0, go xs h.1)

@@ -17,7 +17,7 @@ use Rattle.std.proofs.lemmas.List.FromFn.{get_or-range_with_len}
 use Rattle.std.proofs.ByRecursion.{All-get_or, All-map, All-weaker}
 use Rattle.std.proofs.lemmas.List.{get_or-map, length-map}
 use Rattle.std.proofs.lemmas.Bool.{and_parts, cases_Bool, cases_lt, cond_both, eqb-false, eqb-true, ltb-true, ne_eqb}
-use Rattle.std.specs.List.{range_with_len, AllByRecursion as All}
+use Rattle.std.specs.List.{range_with_len, AllByRecursion}
 
 variable_minus : (v : ℕ) → variable (minus v) ≡ v
 variable_minus zero = refl
@@ -71,13 +71,13 @@ module _ (s : View) (v : ℕ) where
   bridge_above_valves
       : Above s.valves s.arc → s.valves < s.next → (p : ℕ × ℕ) → has_premises (way_through s.arc v) p ≡ true
       → ((p.0 ≡ p.1 → ⊥) → 0 < (bridged s v).arc p.0 p.1)
-      → All (λ z. s.valves < variable z) (implication (way_through s.arc v p.0 p.1) (bridged s v).arc p)
+      → AllByRecursion (λ z. s.valves < variable z) (implication (way_through s.arc v p.0 p.1) (bridged s v).arc p)
   bridge_above_valves above some p pass there =
       let a = and_parts (ltb 0 (s.arc p.0 v)) (ltb 0 (s.arc v p.1) && true) pass in
       let b = and_parts (ltb 0 (s.arc v p.1)) true a.1 in
       let into = above p.0 v (ltb-true 0 (s.arc p.0 v) a.0) in
       let from = above v p.1 (ltb-true 0 (s.arc v p.1) b.0) in
-      let P : Clause → Type 0 = All (λ z. s.valves < variable z) in
+      let P : Clause → Type 0 = AllByRecursion (λ z. s.valves < variable z) in
       let last : P (cond (eqb p.0 p.1) [] (pos ((bridged s v).arc p.0 p.1) ∷ [])) =
       cond_both (eqb p.0 p.1) [] (pos ((bridged s v).arc p.0 p.1) ∷ []) P (λ _. tt) (λ e.
       (bridges_above above some p.0 p.1 (there (eqb-false p.0 p.1 e)), tt)) in
@@ -88,9 +88,9 @@ module _ (s : View) (v : ℕ) where
   elimination_above_valves above some =
       let ps = way_through s.arc v in
       let f : ℕ × ℕ → Clause = λ p. implication (ps p.0 p.1) (bridged s v).arc p in
-      let P : Clause → Type 0 = All (λ z. s.valves < variable z) in
+      let P : Clause → Type 0 = AllByRecursion (λ z. s.valves < variable z) in
       let there = planned_gives ps s.nodes (arcs_of s) (omega arith) in
-      subst (All P) (sym (implications_mapped ps s.nodes (arcs_of s)))
+      subst (AllByRecursion P) (sym (implications_mapped ps s.nodes (arcs_of s)))
       (All-map P f (pairs_with ps s.nodes) (pairs_with_all ps s.nodes (λ p. P (f p)) (λ u w a b e.
       bridge_above_valves above some (u, w) e (there u w a b e))))
 
@@ -118,7 +118,7 @@ module _ (s : View) (fresh : Fresh s) where
       (λ w e. rw (drawn_differ u w e))
       (range_with_len 0 s.nodes)))
 
-  drawn_free : All (Free (arcs_of s)) (pairs_with (valve_of s.pipe) s.nodes)
+  drawn_free : AllByRecursion (Free (arcs_of s)) (pairs_with (valve_of s.pipe) s.nodes)
   drawn_free =
       All-weaker (λ p. has_premises (valve_of s.pipe) p ≡ true) (Free (arcs_of s))
       (λ p h. (

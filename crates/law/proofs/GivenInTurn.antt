@@ -7,11 +7,11 @@ use Rattle.sheet.specs.Implications.{Arcs, Premises, has_premises, pair_at, pair
 use Rattle.std.proofs.lemmas.Nat.{div-add-mod', le-div}
 use Rattle.std.proofs.ByRecursion.{all_kept_by, All-map, All-weaker}
 use Rattle.std.proofs.lemmas.Bool.{cases_eq, cond_both}
-use Rattle.std.specs.List.{range_with_len, AllByRecursion as All}
+use Rattle.std.specs.List.{range_with_len, AllByRecursion}
 
 -- a pair with a new arc is one of the list
 only_listed
-    : (P : ℕ × ℕ → Type 0) (k : Arcs) (ps : List (ℕ × ℕ)) (a : ℕ × ℕ) → All P ps → k.arc a.0 a.1 ≡ 0
+    : (P : ℕ × ℕ → Type 0) (k : Arcs) (ps : List (ℕ × ℕ)) (a : ℕ × ℕ) → AllByRecursion P ps → k.arc a.0 a.1 ≡ 0
     → 0 < (with_arcs k ps).arc a.0 a.1 → P a
 only_listed P k [] a _ z = λ h. absurd (omega arith)
 only_listed P k (p ∷ ps) a all z =
@@ -41,7 +41,7 @@ module _ (k : Arcs) (p : ℕ × ℕ) (ps : List (ℕ × ℕ)) (some : 0 < k.next
       ]
 
   in_turn_more
-      : k.arc p.0 p.1 ≡ 0 → All (Earlier p) ps → GivenInTurn (given k p) (with_arcs (given k p) ps)
+      : k.arc p.0 p.1 ≡ 0 → AllByRecursion (Earlier p) ps → GivenInTurn (given k p) (with_arcs (given k p) ps)
       → GivenInTurn k (with_arcs (given k p) ps)
   in_turn_more z later g =
       record {
@@ -87,7 +87,7 @@ module _ (k : Arcs) (p : ℕ × ℕ) (ps : List (ℕ × ℕ)) (some : 0 < k.next
 -- each pair is earlier than all that follow
 abbrev Ascending : List (ℕ × ℕ) → Type 0
 Ascending [] = Unit {0}
-Ascending (p ∷ ps) = All (Earlier p) ps × Ascending ps
+Ascending (p ∷ ps) = AllByRecursion (Earlier p) ps × Ascending ps
 
 given_in_turn : (k : Arcs) (ps : List (ℕ × ℕ)) → 0 < k.next → Ascending ps → GivenInTurn k (with_arcs k ps)
 given_in_turn k [] some up =
@@ -105,7 +105,7 @@ given_in_turn k (p ∷ ps) some up =
 abbrev pub Free : Arcs → ℕ × ℕ → Type 0
 Free k p = (p.0 ≡ p.1 → ⊥) × (k.arc p.0 p.1 ≡ 0)
 
-later_free : (k : Arcs) (p : ℕ × ℕ) (qs : List (ℕ × ℕ)) → All (Earlier p) qs → All (Free k) qs → All (Free (given k p)) qs
+later_free : (k : Arcs) (p : ℕ × ℕ) (qs : List (ℕ × ℕ)) → AllByRecursion (Earlier p) qs → AllByRecursion (Free k) qs → AllByRecursion (Free (given k p)) qs
 later_free k p [] later free = tt
 later_free k p (q ∷ qs) later free = (
   (
@@ -127,7 +127,7 @@ pub record Numbered (k l : Arcs) (ps : List (ℕ × ℕ)) : Type 0 where
   pub arcs : map (arc_at l) ps ≡ range_with_len k.next (length ps)
 
 free_numbered
-    : (k : Arcs) (ps : List (ℕ × ℕ)) → 0 < k.next → Ascending ps → All (Free k) ps → Numbered k (with_arcs k ps) ps
+    : (k : Arcs) (ps : List (ℕ × ℕ)) → 0 < k.next → Ascending ps → AllByRecursion (Free k) ps → Numbered k (with_arcs k ps) ps
 free_numbered k [] some up free = record { next = omega arith; arcs = refl }
 free_numbered k (p ∷ ps) some up free =
     with_arc_cases k p (λ l. Numbered k (with_arcs l ps) (p ∷ ps))
@@ -139,7 +139,7 @@ free_numbered k (p ∷ ps) some up free =
       arcs = λ i. gets_next k p ps some i ∷ more.arcs i;
     })
 
-above_counting : (a b m : ℕ) → a < b → All (λ x. a < x) (range_with_len b m)
+above_counting : (a b m : ℕ) → a < b → AllByRecursion (λ x. a < x) (range_with_len b m)
 above_counting a b zero h = tt
 above_counting a b (suc m) h = (h, above_counting a (b + 1) m (omega arith))
 
@@ -181,7 +181,7 @@ unfolding planned
 planned_in_turn ps n k some = given_in_turn k (pairs_with ps n) some (pairs_ascend ps n)
 
 pub planned_numbered
-    : (ps : Premises) (n : ℕ) (k : Arcs) → 0 < k.next → All (Free k) (pairs_with ps n)
+    : (ps : Premises) (n : ℕ) (k : Arcs) → 0 < k.next → AllByRecursion (Free k) (pairs_with ps n)
     → Numbered k (planned ps n k) (pairs_with ps n)
 unfolding planned
 planned_numbered ps n k some free = free_numbered k (pairs_with ps n) some (pairs_ascend ps n) free

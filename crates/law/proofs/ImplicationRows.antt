@@ -8,7 +8,7 @@ use Rattle.std.proofs.lemmas.List.Elements.{filter-append}
 use Rattle.std.proofs.ByRecursion.{kept_by_passes}
 use Rattle.std.proofs.lemmas.List.{map-append}
 use Rattle.std.proofs.lemmas.Bool.{cases_Bool}
-use Rattle.std.specs.List.{range_with_len, AllByRecursion as All}
+use Rattle.std.specs.List.{range_with_len, AllByRecursion}
 
 abbrev pub one : Clause → List Clause
 one c = c ∷ []
@@ -72,7 +72,7 @@ module _ {Y : Type 0} (f : ℕ × ℕ → Y) (q : ℕ × ℕ → Bool) where
       ap (map f) (filter-append q row rest) ∙ map-append f (filter q row) (filter q rest)
       ∙ (λ j. row_listed u ws j ++ rows_listed ws us j)
 
-pub pairs_pass : (ps : Premises) (n : ℕ) → All (λ p. has_premises ps p ≡ true) (pairs_with ps n)
+pub pairs_pass : (ps : Premises) (n : ℕ) → AllByRecursion (λ p. has_premises ps p ≡ true) (pairs_with ps n)
 unfolding pairs_with
 pairs_pass ps n = kept_by_passes (has_premises ps) (pairs n)
 

@@ -7,7 +7,7 @@ use Rattle.law.specs.Encoding.{on}
 use Rattle.sheet.specs.Implications.{are_there, implication}
 use Rattle.sheet.specs.Tables.{Table}
 use Rattle.std.proofs.lemmas.Bool.{and_from, and_parts, both_ways, cases_Bool, cond_both, eqb-false, lt-ltb, ltb-true, ne_eqb}
-use Rattle.std.specs.List.{AllByRecursion as All}
+use Rattle.std.specs.List.{AllByRecursion}
 
 module _ (σ : Values) where
   -- an entry that is on
@@ -19,7 +19,7 @@ module _ (σ : Values) where
 
   -- an implication: where all premises are true, the rest of the clause is met
   abbrev pub AllTrue : List ℕ → Type 0
-  AllTrue vs = All (λ v. σ v ≡ true) vs
+  AllTrue vs = AllByRecursion (λ v. σ v ≡ true) vs
 
   unless_true
       : (vs : List ℕ) (c : Clause) → are_there vs ≡ true → (AllTrue vs → Meets σ c) → Meets σ (map minus vs ++ c)

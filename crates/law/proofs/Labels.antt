@@ -4,7 +4,7 @@ use Rattle.sheet.proofs.Tables.{joins_put, put_cases}
 use Rattle.sheet.specs.Implications.{Arcs, Premises, pairs_with, planned, with_arc, with_arcs}
 use Rattle.sheet.specs.Tables.{Joins}
 use Rattle.std.proofs.lemmas.Bool.{eq-eqb, ne_eqb}
-use Rattle.std.specs.List.{AllByRecursion as All}
+use Rattle.std.specs.List.{AllByRecursion}
 use Rattle.sheet.proofs.Pairs.{given, pairs_with_all, with_arc_cases}
 
 -- x is a variable above V that was given, and it was given to the pair (u, w)
@@ -58,7 +58,7 @@ module _ (n V low : ℕ) (old : ℕ → ℕ × ℕ) where
         }
 
     labels_with_arcs
-        : (qs : List (ℕ × ℕ)) (k : Arcs) → All (λ q. (q.0 < n) × (q.1 < n)) qs → Labels k → Labels (with_arcs k qs)
+        : (qs : List (ℕ × ℕ)) (k : Arcs) → AllByRecursion (λ q. (q.0 < n) × (q.1 < n)) qs → Labels k → Labels (with_arcs k qs)
     labels_with_arcs [] k a h = h
     labels_with_arcs (q ∷ qs) k a h =
         labels_with_arcs qs (with_arc k q) a.1

@@ -18,7 +18,7 @@ use Rattle.sheet.specs.Implications.{Arcs}
 use Rattle.sheet.specs.Starting.{start_clauses, started}
 use Rattle.sheet.specs.Tables.{Above}
 use Rattle.sheet.specs.View.{View, arcs_of}
-use Rattle.std.specs.List.{range_with_len, flat_map, AllByRecursion as All}
+use Rattle.std.specs.List.{range_with_len, flat_map, AllByRecursion}
 
 abbrev pub for_each : {X Y : Type 0} → List X → (X → List Y) → List Y
 for_each xs f = flat_map f xs
@@ -63,7 +63,7 @@ pub record GivenInTurn (k l : Arcs) : Type 0 where
       → 0 < l.arc q.0 q.1 → Earlier p q → l.arc p.0 p.1 < l.arc q.0 q.1
 
 abbrev pub AboveValves : ℕ → List Clause → Type 0
-AboveValves v cs = All (All (λ z. v < variable z)) cs
+AboveValves v cs = AllByRecursion (AllByRecursion (λ z. v < variable z)) cs
 
 pub record EliminationRight (s : View) (v : ℕ) : Type 0 where
   pub lists : EliminationLists s v

@@ -2,7 +2,7 @@
 use Rattle.std.proofs.Common.{◌≡◌, ℕ, ◌+◌, ◌*◌, ◌<◌, ◌≤◌, Bool, true, false, cond, not, ◌||◌, T, eqb, List, [], ◌∷◌, get_or, set, sym, refl, ◌∙◌, subst, inl, inr, arith}
 use Rattle.std.proofs.lemmas.List.{get_or-set_other}
 use Rattle.std.proofs.lemmas.Bool.{and_from, eq-eqb, eqb-false, or_parts}
-use Rattle.std.specs.List.{AllByRecursion as All}
+use Rattle.std.specs.List.{AllByRecursion}
 use Rattle.graph.specs.Counts.{count}
 use Rattle.sheet.specs.Implications.{Arcs, Premises, are_there, pairs_with, planned, with_arc, with_arcs}
 use Rattle.sheet.specs.Tables.{Above, Apart, Below, Joins, Staying, Table, put, table, without}
@@ -79,7 +79,7 @@ module _ (n v : ℕ) (out : List Bool) (k : Arcs) (p : ℕ × ℕ) (h : Fit n v 
   }
 
 module _ (n v : ℕ) (out : List Bool) where
-  fit_with_arcs : (qs : List (ℕ × ℕ)) (k : Arcs) → All (Remaining n out) qs → Fit n v out k → Fit n v out (with_arcs k qs)
+  fit_with_arcs : (qs : List (ℕ × ℕ)) (k : Arcs) → AllByRecursion (Remaining n out) qs → Fit n v out k → Fit n v out (with_arcs k qs)
   fit_with_arcs [] k a h = h
   fit_with_arcs (q ∷ qs) k a h =
       fit_with_arcs qs (with_arc k q) a.1

@@ -9,7 +9,7 @@ use Rattle.std.proofs.lemmas.Nat.{div_below, div-mul-add, mod_below, mod-mul-add
 use Rattle.std.proofs.lemmas.List.FromFn.{get_or-map-range_with_len, length-map-range_with_len}
 use Rattle.std.proofs.ByRecursion.{All-from_get_or, All-get_or}
 use Rattle.std.proofs.lemmas.Bool.{both_ways, cond_both, eqb-false, eqb-true, ltb-false, ltb-true, or_cases, or_parts}
-use Rattle.std.specs.List.{AllByRecursion as All}
+use Rattle.std.specs.List.{AllByRecursion}
 
 -- the pairs below n
 pairs_length : (n : ℕ) → length (pairs n) ≡ n * n
@@ -18,7 +18,7 @@ pairs_length n = length-map-range_with_len (pair_at n) 0 (n * n)
 pairs_at : (n i : ℕ) → i < n * n → get_or (pairs n) i (0, 0) ≡ (i / n, i % n)
 pairs_at n i l = get_or-map-range_with_len (pair_at n) 0 (n * n) i i (0, 0) l (omega arith)
 
-pairs_all : (n : ℕ) (P : ℕ × ℕ → Type 0) → ((u w : ℕ) → u < n → w < n → P (u, w)) → All P (pairs n)
+pairs_all : (n : ℕ) (P : ℕ × ℕ → Type 0) → ((u w : ℕ) → u < n → w < n → P (u, w)) → AllByRecursion P (pairs n)
 pairs_all zero P h = tt
 pairs_all (suc m) P h =
     All-from_get_or P (pairs (suc m)) (0, 0) (λ i l.
@@ -26,7 +26,7 @@ pairs_all (suc m) P h =
     let b = div_below i (suc m) (suc m) (omega arith) a in
     subst P (sym (pairs_at (suc m) i a)) (h _ _ b (mod_below i (suc m) (omega arith))))
 
-pairs_has : (n : ℕ) (P : ℕ × ℕ → Type 0) → All P (pairs n) → (u w : ℕ) → u < n → w < n → P (u, w)
+pairs_has : (n : ℕ) (P : ℕ × ℕ → Type 0) → AllByRecursion P (pairs n) → (u w : ℕ) → u < n → w < n → P (u, w)
 pairs_has n P h u w a b =
     let l : u * n + w < n * n = mul-add-lt u n w n a b in
     let e = pairs_at n (u * n + w) l ∙ ap₂ (λ (x y : ℕ). (x, y)) (div-mul-add u n w b) (mod-mul-add u n w b) in
@@ -34,28 +34,28 @@ pairs_has n P h u w a b =
 
 -- what holds of those that a test keeps, and what holds of those that pass it
 module _ {X : Type 0} (test : X → Bool) (P : X → Type 0) where
-  kept_from_passing : (xs : List X) → All (λ x. test x ≡ true → P x) xs → All P (filter test xs)
+  kept_from_passing : (xs : List X) → AllByRecursion (λ x. test x ≡ true → P x) xs → AllByRecursion P (filter test xs)
   kept_from_passing [] h = tt
   kept_from_passing (x ∷ xs) h =
       let rest = kept_from_passing xs h.1 in
-      cond_both (test x) (x ∷ filter test xs) (filter test xs) (All P) (λ e. (h.0 e, rest)) (λ e. rest)
+      cond_both (test x) (x ∷ filter test xs) (filter test xs) (AllByRecursion P) (λ e. (h.0 e, rest)) (λ e. rest)
 
-  passing_from_kept : (xs : List X) → All P (filter test xs) → All (λ x. test x ≡ true → P x) xs
+  passing_from_kept : (xs : List X) → AllByRecursion P (filter test xs) → AllByRecursion (λ x. test x ≡ true → P x) xs
   passing_from_kept [] h = tt
   passing_from_kept (x ∷ xs) h =
-      cond_both (test x) (x ∷ filter test xs) (filter test xs) (λ ys. All P ys → All (λ x. test x ≡ true → P x) (x ∷ xs))
+      cond_both (test x) (x ∷ filter test xs) (filter test xs) (λ ys. AllByRecursion P ys → AllByRecursion (λ x. test x ≡ true → P x) (x ∷ xs))
       (λ e k. (λ _. k.0, passing_from_kept xs k.1))
       (λ e k. (λ a. absurd (both_ways (test x) e a), passing_from_kept xs k))
       h
 
 -- the pairs below n with their premises
 module _ (ps : Premises) (n : ℕ) (P : ℕ × ℕ → Type 0) where
-  pub pairs_with_all : ((u w : ℕ) → u < n → w < n → are_there (ps u w) ≡ true → P (u, w)) → All P (pairs_with ps n)
+  pub pairs_with_all : ((u w : ℕ) → u < n → w < n → are_there (ps u w) ≡ true → P (u, w)) → AllByRecursion P (pairs_with ps n)
   unfolding pairs_with
   pairs_with_all h =
       kept_from_passing (has_premises ps) P (pairs n) (pairs_all n (λ p. has_premises ps p ≡ true → P p) h)
 
-  pub pairs_with_has : All P (pairs_with ps n) → (u w : ℕ) → u < n → w < n → are_there (ps u w) ≡ true → P (u, w)
+  pub pairs_with_has : AllByRecursion P (pairs_with ps n) → (u w : ℕ) → u < n → w < n → are_there (ps u w) ≡ true → P (u, w)
   unfolding pairs_with
   pairs_with_has h = pairs_has n (λ p. has_premises ps p ≡ true → P p) (passing_from_kept (has_premises ps) P (pairs n) h)
 
@@ -111,7 +111,7 @@ with_arcs_keeps (q ∷ qs) k a b l =
 
 with_arcs_gives
     : (qs : List (ℕ × ℕ)) (k : Arcs) → 0 < k.next
-    → All (λ q. (q.0 ≡ q.1 → ⊥) → 0 < (with_arcs k qs).arc q.0 q.1) qs
+    → AllByRecursion (λ q. (q.0 ≡ q.1 → ⊥) → 0 < (with_arcs k qs).arc q.0 q.1) qs
 with_arcs_gives [] k l = tt
 with_arcs_gives (q ∷ qs) k l = (
   λ d.

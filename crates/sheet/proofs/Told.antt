@@ -1,7 +1,7 @@
 -- The clauses at a list of pairs, told one by one, and the literals of an implication.
 use Rattle.std.proofs.Common.{◌≡◌, ℕ, zero, suc, ◌+◌, ◌^◌, ◌<◌, ◌≤◌, ◌⊎◌, List, [], ◌∷◌, ◌++◌, map, length, get_or, pos, ◌-ℤ◌, Some, None, Option, sym, refl, ap, ◌∙◌, subst, inl, inr, arith, length-append, w32, to_z, of_z}
 use Rattle.std.proofs.lemmas.Int.{ints}
-use Rattle.std.specs.List.{AllByRecursion as All}
+use Rattle.std.specs.List.{AllByRecursion}
 use Rattle.bounded.specs.Lists.{nth}
 use Rattle.bounded.proofs.Entries.{nth_map, nth_past}
 use Rattle.cnf.specs.Clauses.{Clause, minus}
@@ -33,7 +33,7 @@ no_clause_told f [] k e = refl
 no_clause_told f (y ∷ xs) zero e = absurd (let z : ◌≡◌ {A = ℕ} 0 1 = cc in omega arith)
 no_clause_told f (y ∷ xs) (suc k) e = no_clause_told f xs k e
 
-pub all_nth : {X : Type 0} (P : X → Type 0) (xs : List X) (j : ℕ) (x : X) → Some x ≡ nth xs j → All P xs → P x
+pub all_nth : {X : Type 0} (P : X → Type 0) (xs : List X) (j : ℕ) (x : X) → Some x ≡ nth xs j → AllByRecursion P xs → P x
 all_nth P [] j x e h = absurd (let z : ◌≡◌ {A = ℕ} 0 1 = cc in omega arith)
 all_nth P (y ∷ xs) zero x e h = let q : y ≡ x = cc in subst P q h.0
 all_nth P (y ∷ xs) (suc j) x e h = all_nth P xs j x e h.1

@@ -9,14 +9,14 @@ use Rattle.sheet.specs.Tables.{table}
 use Rattle.sheet.specs.declared.implications.Body.{Body}
 use Rattle.sheet.specs.declared.implications.Body.TheVariants.{One, Two}
 use Rattle.sheet.specs.declared.implications.Plan.{Plan}
-use Rattle.std.specs.List.{AllByRecursion as All}
+use Rattle.std.specs.List.{AllByRecursion}
 
 abbrev pub listed : Body → List ℕ
 listed (One v) = v ∷ []
 listed (Two v w) = v ∷ (w ∷ [])
 
 abbrev pub Small : List ℕ → Type 0
-Small vs = All (λ v. v < 2 ^ 31) vs
+Small vs = AllByRecursion (λ v. v < 2 ^ 31) vs
 
 abbrev pub plan_pairs : Plan → List (ℕ × ℕ)
 plan_pairs p = take p.count p.pairs
