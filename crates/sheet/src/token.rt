@@ -8,18 +8,9 @@ pub struct DrawingToken {
 }
 
 // Lets its holder eliminate nodes of the sheet of its number, and obliges it to close the sheet or
-// to call that off.
+// to call that off: it does not derive `Drop`, so a program that lets one go is refused.
 pub struct ClosingToken {
     pub(crate) number: u32,
-}
-
-impl Drop for ClosingToken {
-    // Nothing meets what this requires, so that a program that lets a closing token go is not proved.
-    fn drop(self)
-        requires { ⊥ }
-    {
-        let ClosingToken { number: _ } = self;
-    }
 }
 
 impl ClosingToken {
