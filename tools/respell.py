@@ -4,7 +4,7 @@ words in snake case, types and records in camel case.
 
 usage: python3 tools/respell.py          at the top of the repository, once, after the toolchain's own scripts
 
-A name is taken where a file of specs/ or a lemma file of proofs/ defines it with a hyphen: definitions, lemmas,
+A name is taken where a file of specs/ or a lemma file of proofs/ defines it with a hyphen (a type also with an underscore): definitions, lemmas,
 records, their fields, and lemmas local to another one. Answer files of functions define no such name, since their
 names are the toolchain's. Names of functions of src/ stay.
 """
@@ -50,7 +50,8 @@ def own_names():
             if re.match(r"\s*(?:pub )?record \w", line):
                 record = inset
             m = DEFINED.match(line) or (GOES_ON.match(after) and ALONE.match(line))
-            if m and "-" in m.group(4) and not m.group(4).startswith("-"):
+            # the toolchain's scripts leave a type with an underscore, as Some_type
+            if m and re.search(r"(?<=.)-|^[A-Z][a-z]+_", m.group(4)):
                 names.add(m.group(4))
                 # a lemma is a value, also where its name begins with that of a type
                 if "/proofs/" in path and not m.group(3) and not (line + after).rstrip().endswith("Type 0"):
@@ -61,7 +62,7 @@ def own_names():
 
 
 def respelled(name, is_lemma):
-    parts = name.replace("getD", "get_or").split("-")
+    parts = re.split("[-_]" if name[0].isupper() else "-", name.replace("getD", "get_or"))
     if parts[0][0].isupper() and is_lemma:
         parts[0] = parts[0][0].lower() + parts[0][1:]
     elif parts[0][0].isupper():

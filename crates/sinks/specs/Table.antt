@@ -4,7 +4,7 @@
 --     part xs p, cut ps xs         the literals that a pair names; the clauses that pairs name
 --     joined cs                    the literals of clauses, one behind the other
 --     behind u c xs                a store xs with the clause c behind its first u literals, and every other place as it was
---     Laid_out ps xs               the pairs are the offsets and lengths of the clauses, and the literals are theirs, one behind the other
+--     LaidOut ps xs                the pairs are the offsets and lengths of the clauses, and the literals are theirs, one behind the other
 --     table_cost c                 a clause costs its length, and one that is refused for its form nothing
 --     table_state pairs n literals u    what a table means whose buffers hold these pairs and literals, the first n and u of them in use
 use Rattle.std.specs.Prelude.{◌≡◌, ℕ, ◌+◌, ◌-◌, min, cond, List, [], ◌∷◌, ◌++◌, map, length, take, drop, ℤ}
@@ -37,7 +37,7 @@ joined (c ∷ cs) = c ++ joined cs
 abbrev pub behind : {X : Type 0} → ℕ → List X → List X → List X
 behind u c xs = take u xs ++ (c ++ drop (u + length c) xs)
 
-pub record Laid_out (ps : List (ℕ × ℕ)) (xs : Clause) : Type 0 where
+pub record LaidOut (ps : List (ℕ × ℕ)) (xs : Clause) : Type 0 where
   pub pairs_are : ps ≡ laid 0 (map length (cut ps xs))
   pub literals_are : xs ≡ joined (cut ps xs)
 

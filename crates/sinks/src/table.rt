@@ -2,7 +2,7 @@
 // its offset and its length. Every question is answered in constant time.
 ghost use Rattle.std.specs.Prelude.{◌≡◌, ◌+◌, ◌-◌, ◌<◌, ◌≤◌, min, [], ◌∷◌, ◌++◌, length, take, is_ok, if◌then◌else◌, OnErr, OnOk, slice_set};
 ghost use Rattle.cnf.specs.States.{add_refusal, added};
-ghost use Rattle.sinks.specs.Table.{Laid_out, behind, cut, laid, lengths, sum, table_state};
+ghost use Rattle.sinks.specs.Table.{LaidOut, behind, cut, laid, lengths, sum, table_state};
 ghost use Rattle.std.specs.Result.{result_err};
 
 use bounded::Bounded;
@@ -126,7 +126,7 @@ impl<'a> TableSink<'a> {
     // literals, one behind the other, and the offset and length of each.
     pub fn stored(&self) -> (usize, usize)
         ensures counts { (result.0 ≡ self.now.count) × (result.1 ≡ self.now.used) }
-        ensures laid_out { Laid_out (take self.now.count self.now.pairs.now) (take self.now.used self.now.literals.now) }
+        ensures laid_out { LaidOut (take self.now.count self.now.pairs.now) (take self.now.used self.now.literals.now) }
     {
         (self.count, self.used)
     }
