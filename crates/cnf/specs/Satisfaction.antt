@@ -5,7 +5,7 @@
 --     Sat σ cs             every clause of the list is met
 --     setting values       the values that value bytes give: true where the byte of the variable is 1
 --     Full values cs       every literal stands on a variable whose byte is 1 or 2
---     UnmetRight values cs r    for full value bytes: where no clause is named, the bytes' values meet every clause; a clause
+--     UnmetRight values cs r     for full value bytes: where no clause is named, the bytes' values meet every clause; a clause
 --                          that is named is not met, while every one before it is
 use Rattle.std.specs.Prelude.{◌≡◌, ℕ, zero, suc, ◌-◌, ◌<◌, Bool, true, false, ◌⊎◌, List, [], length, ℤ, pos, negsuc, Some, None, Option, ◌==◌, slice_index, slice_index_or}
 use Rattle.cnf.specs.Clauses.{Clause}

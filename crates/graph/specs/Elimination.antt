@@ -3,7 +3,7 @@
 --                        a way from u through v back to u becomes an edge from u to itself
 --     Bridges r s v      s has at least the edges that the elimination of v leaves of r, where r has no ring of one
 --                        or two edges at v, so that no edge from a node to itself is wanted
---     EliminationLaw    eliminating a node that has no edge to itself keeps every ring and makes none; and every
+--     EliminationLaw     eliminating a node that has no edge to itself keeps every ring and makes none; and every
 --                        ring of r is still found in any s that bridges r
 use Rattle.std.specs.Prelude.{◌≡◌, ℕ, true, false, not, ◌&&◌, ◌||◌, ◌↔◌, ◌==◌, ◌≢◌}
 use Rattle.graph.specs.Walks.{Edges, Edge, Ring}

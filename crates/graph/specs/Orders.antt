@@ -1,8 +1,8 @@
 -- Orders and rings as lists of nodes. Assumes nothing.
 --     Distinct ns        no node stands twice in the list
---     IsOrder n r ns    every node below n once, and every edge between them leads onward in the list
---     IsRing r ns       distinct nodes, the smallest first, with an edge from each to the next and from the last to the first
---     OrderLaw          a graph whose nodes stand in an order has no ring, and one with a list that is a ring has one
+--     IsOrder n r ns     every node below n once, and every edge between them leads onward in the list
+--     IsRing r ns        distinct nodes, the smallest first, with an edge from each to the next and from the last to the first
+--     OrderLaw           a graph whose nodes stand in an order has no ring, and one with a list that is a ring has one
 use Rattle.std.specs.Prelude.{◌≡◌, ℕ, ◌+◌, ◌-◌, ◌<◌, ◌≤◌, true, List, length, ◌≢◌, slice_index}
 use Rattle.graph.specs.Walks.{Edges, Edge, Inside, Ring, Ringless}
 

@@ -1,7 +1,7 @@
 -- Ranks: numbers of the nodes that rise along every edge. Assumes nothing.
 --     Rises ρ R     the numbers ρ rise along every edge of R
 --     Ranked n r    some numbers, below n at every node below n, rise along every edge of r
---     RankLaw      a graph on finitely many nodes has no ring exactly when it is ranked
+--     RankLaw       a graph on finitely many nodes has no ring exactly when it is ranked
 use Rattle.std.specs.Prelude.{ℕ, ◌<◌, ◌↔◌}
 use Rattle.graph.specs.Walks.{Edges, Edge, Inside, Ringless}
 

@@ -4,8 +4,8 @@
 --                                     the order is one, with no pipes; and every drawn valve has a known position
 --     Unknown n pipe values v         v is the valve of a drawn pipe and has no known position, and every pipe at a pair
 --                                     before that one has a valve with a known position
---     RightAnswer s values r ns ps   an answer of the judge is right
---     IndependenceLaw                the answer, and what it names, depend on the nodes, the pipes drawn and the values of the
+--     RightAnswer s values r ns ps    an answer of the judge is right
+--     IndependenceLaw                 the answer, and what it names, depend on the nodes, the pipes drawn and the values of the
 --                                     valves alone: not on the sheet's number, phase, arcs or eliminated nodes, nor on bytes
 --                                     past the valves, nor on how much more than enough was lent
 use Rattle.std.specs.Prelude.{◌≡◌, ℕ, ◌+◌, ◌-◌, ◌<◌, ◌≤◌, true, false, ◌⊎◌, ◌↔◌, List, [], length, Ok, Err, Result, slice_index, slice_index_or}

@@ -10,7 +10,7 @@
 --                         clauses and has a ring of open pipes has a ring of true arcs
 --     without_nodes s vs  the sheet after the eliminations of vs, one after the other
 --     clauses_of s vs     the clauses that these eliminations write
---     EncodingLaw        after start, and after any eliminations, the clauses written so far encode the sheet
+--     EncodingLaw         after start, and after any eliminations, the clauses written so far encode the sheet
 use Rattle.std.specs.Prelude.{◌≡◌, ℕ, ◌+◌, ◌<◌, ◌&&◌, List, [], ◌∷◌, ◌++◌, nat_lt}
 use Rattle.cnf.specs.Clauses.{Clause}
 use Rattle.cnf.specs.Satisfaction.{Sat, Values}

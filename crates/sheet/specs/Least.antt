@@ -5,7 +5,7 @@
 --     least_among s k    the best of the nodes below k, or none where none of them remains
 --     least_node s       the best of all nodes
 --     Fewest s u         u remains, no remaining node has fewer arcs, and none with a smaller number has as few
---     LeastRight s o    a node that is named has the fewest arcs; where none is named, none remains
+--     LeastRight s o     a node that is named has the fewest arcs; where none is named, none remains
 use Rattle.std.specs.Prelude.{◌≡◌, ℕ, zero, suc, ◌+◌, ◌<◌, ◌≤◌, true, false, cond, not, ◌&&◌, ltb, Some, None, Option, nat_lt}
 use Rattle.graph.specs.Counts.{count}
 use Rattle.sheet.specs.View.{View}

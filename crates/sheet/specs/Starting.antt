@@ -5,7 +5,7 @@
 --     started s                 the sheet with its arcs
 --     start_refusal s m sink    why a sheet is not started with a token of number m and a sink in the given state, or none
 --     start_step s m sink       what start leaves: the sheet with its arcs, or the sheet as it was
---     StartToken t r           a closing token for the number of the drawing token t, or t itself with a refusal
+--     StartToken t r            a closing token for the number of the drawing token t, or t itself with a refusal
 use Rattle.std.specs.Prelude.{◌≡◌, ℕ, cond, ◌&&◌, List, [], ◌∷◌, is_some, Ok, Err, Option, Result, ◌==◌}
 use Rattle.cnf.specs.Clauses.{Clause}
 use Rattle.cnf.specs.States.{State}

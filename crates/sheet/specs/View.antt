@@ -6,7 +6,7 @@
 --     new        the view of a new sheet, with nothing drawn
 --     with_pipes s t    the sheet with the pipes t
 --     arcs_of s  its arcs and its next free variable
---     with_arcs_of s f k out    the sheet in the phase f, with the arcs and the next free variable k, and the nodes out out
+--     with_arcs_of s f k out    the sheet in the phase f, with the arcs and the next free variable k, and the eliminated nodes out
 use Rattle.std.specs.Prelude.{ℕ, ◌+◌, Bool, false, slice_index_or}
 use Rattle.sheet.specs.Implications.{Arcs}
 use Rattle.sheet.specs.Tables.{Table, blank, table}

@@ -7,8 +7,8 @@ use Rattle.sheet.specs.View.{view}
 use Rattle.sheet.specs.declared.place.Sheet.{Sheet}
 use Rattle.law.proofs.start_is_right.Goals as goal
 
-fresh-of : (s : Sheet) → T (is_fresh s.phase) → Fresh (view s)
-fresh-of s t = record {
+fresh_of : (s : Sheet) → T (is_fresh s.phase) → Fresh (view s)
+fresh_of s t = record {
   pipes = s.pipes_join;
   no_arcs = λ u w. s.fresh_arcs u w t;
   next = s.fresh_next t;
@@ -18,6 +18,6 @@ pub returns : goal.returns
 returns c =
     let s = c.args.sheet.now in
     record {
-      lists = λ t. (clause_law.start (view s) (fresh-of s t)).0;
-      encodes = λ t. encoding_law.start (view s) (fresh-of s t);
+      lists = λ t. (clause_law.start (view s) (fresh_of s t)).0;
+      encodes = λ t. encoding_law.start (view s) (fresh_of s t);
     }

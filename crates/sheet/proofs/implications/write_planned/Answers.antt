@@ -26,11 +26,11 @@ invariant_of-planned g c =
     }
 
 -- what the plan tells
-clauses-are
+clauses_are
     : (g : given.Over) (c : goal.After-new-plan g)
     → map (clause_at (g.R.Rule.premises c.args.rule) (table c.new-plan.result.arcs)) (plan_pairs c.new-plan.result)
     ≡ implications (g.R.Rule.premises c.args.rule) c.args.sheet.now.nodes (arcs_of (view c.args.sheet.now))
-clauses-are g c =
+clauses_are g c =
     let e = c.new-plan.ensures in
     implications_are (g.R.Rule.premises c.args.rule) c.args.sheet.now.nodes (arcs_of (view c.args.sheet.now))
     (plan_pairs c.new-plan.result) (plan_arcs c.new-plan.result) e.pairs e.arcs
@@ -39,7 +39,7 @@ pub returns-in_err-write_all : goal.returns-in_err-write_all
 returns-in_err-write_all g c =
     let p = err_from_is_err_and c.from_residual.result c.from_residual.ensures.1 in
     let e = c.in_err-write_all.ensures in
-    let cs = clauses-are g (goal.at.returns-in_err-write_all g c).After-new-plan in
+    let cs = clauses_are g (goal.at.returns-in_err-write_all g c).After-new-plan in
     rw (p.1, p.2) (record {
       answer = e.answer ∙ ap (write_refusal (g.S.Sink.state c.args.sink.now)) cs;
       after = e.after;
@@ -53,7 +53,7 @@ returns-in_err-write_all g c =
 pub returns : goal.returns
 returns g c =
     let e = c.in_ok-write_all.ensures in
-    let cs = clauses-are g (goal.at.returns g c).After-new-plan in
+    let cs = clauses_are g (goal.at.returns g c).After-new-plan in
     let state = g.S.Sink.state c.args.sink.now in
     let held = g.S.Formula.clauses c.args.sink.now in
     let is : c.write_all.new.source.plan ≡ c.new-plan.result = ap (λ (f : Planned g.row.R.Denot). f.plan) e.same in

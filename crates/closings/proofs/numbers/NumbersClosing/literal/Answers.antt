@@ -9,11 +9,11 @@ use Rattle.closings.proofs.numbers.NumbersClosing.literal.Goals as goal
 
 -- the bit of an end of the arc that was read
 module _ (x : Input) (a k r : ℕ) (e : Arc) (at : e ≡ arc_at x a) where
-  y-from : r ≡ numbers_y x e.from k → r ≡ numbers_y x (arc_at x a).from k
-  y-from p = p ∙ ap (λ (e : Arc). numbers_y x e.from k) at
+  y_from : r ≡ numbers_y x e.from k → r ≡ numbers_y x (arc_at x a).from k
+  y_from p = p ∙ ap (λ (e : Arc). numbers_y x e.from k) at
 
-  y-to : r ≡ numbers_y x e.to k → r ≡ numbers_y x (arc_at x a).to k
-  y-to p = p ∙ ap (λ (e : Arc). numbers_y x e.to k) at
+  y_to : r ≡ numbers_y x e.to k → r ≡ numbers_y x (arc_at x a).to k
+  y_to p = p ∙ ap (λ (e : Arc). numbers_y x e.to k) at
 
 pub returns-in-LowLeaves : goal.returns-in-LowLeaves
 returns-in-LowLeaves c =
@@ -24,7 +24,7 @@ returns-in-LowLeaves c =
     c.in-LowLeaves.ensures.is c.of_two.ensures
     (passed_minus _ _ _ c.negative.type_inv c.negative.ensures c.rise.ensures.is)
     (passed_minus _ _ _ c.negative-in-LowLeaves.type_inv c.negative-in-LowLeaves.ensures
-    (y-from x a 1 _ _ c.arc_at-i.ensures.is c.label_bit.ensures.is))
+    (y_from x a 1 _ _ c.arc_at-i.ensures.is c.label_bit.ensures.is))
 
 pub returns-in-LowEnters : goal.returns-in-LowEnters
 returns-in-LowEnters c =
@@ -36,7 +36,7 @@ returns-in-LowEnters c =
     (passed_minus _ _ _ c.negative-in-LowEnters.type_inv c.negative-in-LowEnters.ensures
     c.rise-in-LowEnters.ensures.is)
     (passed_pos _ _ _ c.positive.type_inv c.positive.ensures
-    (y-to x a 1 _ _ c.arc_at-i-in-LowEnters.ensures.is c.label_bit-in-LowEnters.ensures.is))
+    (y_to x a 1 _ _ c.arc_at-i-in-LowEnters.ensures.is c.label_bit-in-LowEnters.ensures.is))
 
 pub returns-in-BitRises : goal.returns-in-BitRises
 returns-in-BitRises c =
@@ -49,9 +49,9 @@ returns-in-BitRises c =
     (passed_minus _ _ _ c.negative-in-BitRises.type_inv c.negative-in-BitRises.ensures
     c.rise-in-BitRises.ensures.is)
     (passed_minus _ _ _ c.negative-leaves.type_inv c.negative-leaves.ensures
-    (y-from x a k _ _ c.arc_at-arc.ensures.is c.label_bit-in-BitRises.ensures.is))
+    (y_from x a k _ _ c.arc_at-arc.ensures.is c.label_bit-in-BitRises.ensures.is))
     (passed_pos _ _ _ c.positive-in-BitRises.type_inv c.positive-in-BitRises.ensures
-    (y-to x a k _ _ c.arc_at-arc.ensures.is c.label_bit-in-BitRises-2.ensures.is))
+    (y_to x a k _ _ c.arc_at-arc.ensures.is c.label_bit-in-BitRises-2.ensures.is))
 
 pub returns-in-RestLeaves : goal.returns-in-RestLeaves
 returns-in-RestLeaves c =
@@ -64,7 +64,7 @@ returns-in-RestLeaves c =
     (passed_minus _ _ _ c.negative-in-RestLeaves.type_inv c.negative-in-RestLeaves.ensures
     c.rise-in-RestLeaves.ensures.is)
     (passed_minus _ _ _ c.negative-in-RestLeaves-2.type_inv c.negative-in-RestLeaves-2.ensures
-    (y-from x a k _ _ c.arc_at-i-in-RestLeaves.ensures.is c.label_bit-in-RestLeaves.ensures.is))
+    (y_from x a k _ _ c.arc_at-i-in-RestLeaves.ensures.is c.label_bit-in-RestLeaves.ensures.is))
     (passed_pos _ _ _ c.positive-in-RestLeaves.type_inv c.positive-in-RestLeaves.ensures
     c.rise-in-RestLeaves-2.ensures.is)
 
@@ -79,7 +79,7 @@ returns-in-RestEnters c =
     (passed_minus _ _ _ c.negative-in-RestEnters.type_inv c.negative-in-RestEnters.ensures
     c.rise-in-RestEnters.ensures.is)
     (passed_pos _ _ _ c.positive-in-RestEnters.type_inv c.positive-in-RestEnters.ensures
-    (y-to x a k _ _ c.arc_at-i-in-RestEnters.ensures.is c.label_bit-in-RestEnters.ensures.is))
+    (y_to x a k _ _ c.arc_at-i-in-RestEnters.ensures.is c.label_bit-in-RestEnters.ensures.is))
     (passed_pos _ _ _ c.positive-in-RestEnters-2.type_inv c.positive-in-RestEnters-2.ensures
     c.rise-in-RestEnters-2.ensures.is)
 

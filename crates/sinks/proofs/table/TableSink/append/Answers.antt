@@ -13,9 +13,9 @@ tested
 tested c b h =
     (λ i. eqb (sym c.left-entries.ensures.entries i) 0 || ltb (sym c.left-entries.ensures.units i) (length c.args.clause.now)) ∙ h
 
-or-true : (a b : Bool) → b ≡ true → (a || b) ≡ true
-or-true true b h = refl
-or-true false b h = h
+or_true : (a b : Bool) → b ≡ true → (a || b) ≡ true
+or_true true b h = refl
+or_true false b h = h
 
 pub returns-then-entries-eq0 : goal.returns-then-entries-eq0
 returns-then-entries-eq0 c =
@@ -24,7 +24,7 @@ returns-then-entries-eq0 c =
     let full : (eqb c.left-entries.result.0 0 || ltb c.left-entries.result.1 (length c.args.clause.now)) ≡ true =
     elim c.then-entries-eq0.branch [
       | then-entries-eq0-via-then-entries-eq0 w ↦ ap (λ b. b || ltb c.left-entries.result.1 (length c.args.clause.now)) (eq-eqb _ _ w.if-entries-eq0.true)
-      | then-entries-eq0-via-else-entries-eq0+then-units-clause w ↦ or-true _ _ (lt-ltb _ _ w.if-units-clause.true)
+      | then-entries-eq0-via-else-entries-eq0+then-units-clause w ↦ or_true _ _ (lt-ltb _ _ w.if-units-clause.true)
     ] in
     record {
       answer = table_answer _ _ _ _ c.args.clause.now true t (tested d true full);
