@@ -4,7 +4,7 @@
 --     nth xs i     entry i of a list, or none past its end
 --     Replaced new b c    c is the list b with new entries in place of the old: they stand in the first places, and the
 --                         places past them, and the loan itself, are those of b
-use Rattle.std.specs.Prelude.{◌≡◌, ℕ, zero, suc, List, [], ◌∷◌, ◌++◌, length, take, drop, Some, None, Option}
+use Rattle.std.specs.Prelude.{◌≡◌, ℕ, List, ◌++◌, length, take, drop, Option, slice_get}
 use Rattle.bounded.specs.declared.Bounded.{Bounded}
 
 abbrev pub room : {T : Type 0} → Bounded T → List T
@@ -14,9 +14,7 @@ abbrev pub entries : {T : Type 0} → Bounded T → List T
 entries b = take b.count (room b)
 
 abbrev pub nth : {T : Type 0} → List T → ℕ → Option T
-nth [] i = None
-nth (x ∷ xs) zero = Some x
-nth (x ∷ xs) (suc i) = nth xs i
+nth xs i = slice_get xs i
 
 pub record Replaced {T : Type 0} (new : List T) (b c : Bounded T) : Type 0 where
   pub entries_are : entries c ≡ new
