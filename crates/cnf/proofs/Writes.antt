@@ -1,28 +1,19 @@
 -- Laws of many clauses at once: what passes for none of them, what they cost together, and a sink after them.
-use Rattle.std.proofs.Common.{◌≡◌, ℕ, zero, suc, ◌+◌, ◌-◌, ◌<◌, ◌≤◌, Bool, true, false, cond, ◌||◌, eqb, ltb, ◌⊎◌, List, [], ◌∷◌, ◌++◌, length, get_or, take, drop, Some, None, Option, sym, refl, ap, ◌∙◌, arith}
-use Rattle.std.proofs.lemmas.List.{at_drop_more, at_drop_all, take_more, take-append-drop, length-take-le}
-use Rattle.std.proofs.lemmas.Bool.{or_left, or_parts, or_from}
+use Rattle.std.proofs.Common.{sum_by, ◌≡◌, ℕ, zero, suc, ◌+◌, ◌-◌, ◌<◌, ◌≤◌, Bool, true, false, cond, ◌||◌, eqb, ltb, ◌⊎◌, List, [], ◌∷◌, ◌++◌, length, get_or, take, Some, None, Ok, Err, is_ok, Option, Result, sym, refl, ap, ◌∙◌, arith}
+use Rattle.std.specs.List.{list_any}
+use Rattle.std.specs.Result.{result_err}
+use Rattle.std.proofs.lemmas.List.{take_more, length-take-le}
+use Rattle.std.proofs.lemmas.List.Sums.{sum_by-cons, sum_by-take-le, sum_by_push}
+use Rattle.std.proofs.lemmas.Bool.{or_parts, or_from}
 use Rattle.std.proofs.lemmas.Bool.Decides.{nat_tests}
 use Rattle.cnf.specs.Clauses.{Clause, has_bad_literal, bad_length}
 use Rattle.cnf.specs.States.{State, added, add_refusal}
 use Rattle.cnf.specs.declared.refusal.SinkRefusal.{SinkRefusal}
 use Rattle.cnf.specs.declared.refusal.SinkRefusal.TheVariants.{Length, Literal, Room}
-use Rattle.cnf.specs.Writing.{any, total, write_refusal, written}
-
-pub any_here : {X : Type 0} (p : X → Bool) (xs : List X) (k : ℕ) (d : X) → k < length xs → p (get_or xs k d) ≡ true → any p (drop k xs) ≡ true
-any_here p xs k d l h = at_drop_more (any p) xs k d l ∙ or_left _ _ h
-
-or_next : (a b : Bool) → a ≡ false → (a || b) ≡ b
-or_next a b h = ap (λ x. x || b) h
-
-pub any_next : {X : Type 0} (p : X → Bool) (xs : List X) (k : ℕ) (d : X) → k < length xs → p (get_or xs k d) ≡ false → any p (drop k xs) ≡ any p (drop (k + 1) xs)
-any_next p xs k d l h = at_drop_more (any p) xs k d l ∙ or_next _ _ h
-
-pub any_end : {X : Type 0} (p : X → Bool) (xs : List X) (k : ℕ) → length xs ≤ k → any p (drop k xs) ≡ false
-any_end p xs k h = at_drop_all (any p) xs k h
+use Rattle.cnf.specs.Writing.{write_refusal, written}
 
 -- what passes for none does not pass for the k-th
-pub none_at : {X : Type 0} (p : X → Bool) (xs : List X) (k : ℕ) (d : X) → k < length xs → any p xs ≡ false → p (get_or xs k d) ≡ false
+pub none_at : {X : Type 0} (p : X → Bool) (xs : List X) (k : ℕ) (d : X) → k < length xs → list_any p xs ≡ false → p (get_or xs k d) ≡ false
 none_at p [] k d l h = absurd (omega arith)
 none_at p (x ∷ xs) zero d l h = (or_parts _ _ h).0
 none_at p (x ∷ xs) (suc k) d l h = none_at p xs k d (omega arith) (or_parts _ _ h).1
@@ -36,32 +27,22 @@ bad_length_false longest c m e h k = grind (arith, nat_tests)
 pub good_length : (longest : ℕ) (c : Clause) → bad_length longest c ≡ false → length c ≤ longest
 good_length longest c h = grind (arith, nat_tests)
 
-pub wider : (m n : ℕ) (cs : List Clause) → m ≤ n → any (bad_length m) cs ≡ false → any (bad_length n) cs ≡ false
+pub wider : (m n : ℕ) (cs : List Clause) → m ≤ n → list_any (bad_length m) cs ≡ false → list_any (bad_length n) cs ≡ false
 wider m n [] h e = refl
 wider m n (c ∷ cs) h e =
     let p = or_parts (bad_length m c) _ e in
     let q : bad_length n c ≡ false = grind (arith, nat_tests) in
     or_from _ _ q (wider m n cs h p.1)
 
-pub fits_at : (n : ℕ) (cs : List Clause) (k : ℕ) → any (bad_length n) cs ≡ false → length (get_or cs k []) ≤ n
+pub fits_at : (n : ℕ) (cs : List Clause) (k : ℕ) → list_any (bad_length n) cs ≡ false → length (get_or cs k []) ≤ n
 fits_at n [] k h = omega arith
 fits_at n (c ∷ cs) zero h = good_length n c (or_parts _ _ h).0
 fits_at n (c ∷ cs) (suc k) h = fits_at n cs k (or_parts _ _ h).1
 
--- sums
-pub total_push : (f : Clause → ℕ) (cs : List Clause) (c : Clause) → total f (cs ++ (c ∷ [])) ≡ total f cs + f c
-total_push f [] c = omega arith
-total_push f (b ∷ cs) c = omega (arith, total_push f cs c)
-
-pub total_more : (f : Clause → ℕ) (cs : List Clause) (k : ℕ) → k < length cs → total f (take (k + 1) cs) ≡ total f (take k cs) + f (get_or cs k [])
-total_more f cs k h = ap (total f) (take_more cs k [] h) ∙ total_push f (take k cs) (get_or cs k [])
-
-total_split : (f : Clause → ℕ) (cs ds : List Clause) → total f (cs ++ ds) ≡ total f cs + total f ds
-total_split f [] ds = omega arith
-total_split f (c ∷ cs) ds = omega (arith, total_split f cs ds)
-
-total_front : (f : Clause → ℕ) (cs : List Clause) (k : ℕ) → total f (take k cs) ≤ total f cs
-total_front f cs k = omega (arith, total_split f (take k cs) (drop k cs), ap (total f) (take-append-drop k cs))
+-- an answer without a refusal accepts
+pub no_err_ok : {A E : Type 0} (r : Result A E) → result_err r ≡ None → is_ok r ≡ true
+no_err_ok (Ok x) h = refl
+no_err_ok (Err e) h = absurd (grind (arith, h))
 
 -- a sink after many clauses
 pub written_push : (s : State) (cs : List Clause) (c : Clause) → written s (cs ++ (c ∷ [])) ≡ added (written s cs) c
@@ -87,16 +68,16 @@ written_entries : (s : State) (cs : List Clause) → (written s cs).entries ≡ 
 written_entries s [] = omega arith
 written_entries s (c ∷ cs) = omega (arith, written_entries (added s c) cs)
 
-written_units : (s : State) (cs : List Clause) → (written s cs).units ≡ s.units - total s.cost cs
+written_units : (s : State) (cs : List Clause) → (written s cs).units ≡ s.units - sum_by s.cost cs
 written_units s [] = omega arith
-written_units s (c ∷ cs) = omega (arith, written_units (added s c) cs)
+written_units s (c ∷ cs) = omega (arith, sum_by-cons s.cost c cs, written_units (added s c) cs)
 
 -- what holds of clauses that are not refused
 pub record Taken (s : State) (cs : List Clause) : Type 0 where
-  pub sized : any (bad_length s.longest) cs ≡ false
-  pub clean : any (has_bad_literal s.top) cs ≡ false
+  pub sized : list_any (bad_length s.longest) cs ≡ false
+  pub clean : list_any (has_bad_literal s.top) cs ≡ false
   pub few : length cs ≤ s.entries
-  pub cheap : total s.cost cs ≤ s.units
+  pub cheap : sum_by s.cost cs ≤ s.units
 
 taken_by : (a b : Bool) (n e t u : ℕ) → ◌≡◌ {A = Option SinkRefusal} (cond a (Some Length) (cond b (Some Literal) (cond (ltb e n || ltb u t) (Some Room) None))) None → (a ≡ false) × (b ≡ false) × (n ≤ e) × (t ≤ u)
 taken_by true b n e t u h = absurd (grind (arith, h))
@@ -104,7 +85,7 @@ taken_by false true n e t u h = absurd (grind (arith, h))
 taken_by false false n e t u h = (refl, refl, grind (arith, nat_tests), grind (arith, nat_tests))
 
 pub taken : (s : State) (cs : List Clause) → write_refusal s cs ≡ None → Taken s cs
-taken s cs h = let p = taken_by _ _ (length cs) s.entries (total s.cost cs) s.units h in record { sized = p.0; clean = p.1; few = p.2; cheap = p.3 }
+taken s cs h = let p = taken_by _ _ (length cs) s.entries (sum_by s.cost cs) s.units h in record { sized = p.0; clean = p.1; few = p.2; cheap = p.3 }
 
 refusal_none : (a b : Bool) (e u t : ℕ) → a ≡ false → b ≡ false → 0 < e → t ≤ u → ◌≡◌ {A = Option SinkRefusal} (cond a (Some Length) (cond b (Some Literal) (cond (eqb e 0 || ltb u t) (Some Room) None))) None
 refusal_none a b e u t p q h k = grind (arith, nat_tests)
@@ -117,7 +98,7 @@ step_taken s cs k l h =
     let n : length (take k cs) ≡ k = length-take-le k cs (omega arith) in
     let costs : (written s (take k cs)).cost (get_or cs k []) ≡ s.cost (get_or cs k []) = ap (λ (m : Clause → ℕ). m (get_or cs k [])) (written_cost s (take k cs)) in
     let e : 0 < (written s (take k cs)).entries = omega (arith, written_entries s (take k cs), t.few) in
-    let u : (written s (take k cs)).cost (get_or cs k []) ≤ (written s (take k cs)).units = omega (arith, written_units s (take k cs), costs, total_more s.cost cs k l, total_front s.cost cs (k + 1), t.cheap) in
+    let u : (written s (take k cs)).cost (get_or cs k []) ≤ (written s (take k cs)).units = omega (arith, written_units s (take k cs), costs, ap (sum_by s.cost) (take_more cs k [] l), sum_by_push s.cost (take k cs) (get_or cs k []), sum_by-take-le s.cost cs (k + 1), t.cheap) in
     refusal_none _ _ _ _ _
     (ap (λ m. bad_length m c) (written_longest s (take k cs)) ∙ none_at (bad_length s.longest) cs k [] l t.sized)
     (ap (λ m. has_bad_literal m c) (written_top s (take k cs)) ∙ none_at (has_bad_literal s.top) cs k [] l t.clean)
@@ -128,6 +109,6 @@ writes_by : (a b : Bool) (n e t u : ℕ) → a ≡ false → b ≡ false → n �
 writes_by a b n e t u p q h k = grind (arith, nat_tests)
 
 -- what was asked says that they are not refused
-pub writes_all : (s : State) (cs : List Clause) (top longest : ℕ) → top ≡ s.top → longest ≡ s.longest → any (bad_length longest) cs ≡ false → any (has_bad_literal top) cs ≡ false → length cs ≤ s.entries → total s.cost cs ≤ s.units → write_refusal s cs ≡ None
+pub writes_all : (s : State) (cs : List Clause) (top longest : ℕ) → top ≡ s.top → longest ≡ s.longest → list_any (bad_length longest) cs ≡ false → list_any (has_bad_literal top) cs ≡ false → length cs ≤ s.entries → sum_by s.cost cs ≤ s.units → write_refusal s cs ≡ None
 writes_all s cs top longest p q a b h k =
-    writes_by _ _ (length cs) s.entries (total s.cost cs) s.units (ap (λ m. any (bad_length m) cs) (sym q) ∙ a) (ap (λ m. any (has_bad_literal m) cs) (sym p) ∙ b) h k
+    writes_by _ _ (length cs) s.entries (sum_by s.cost cs) s.units (ap (λ m. list_any (bad_length m) cs) (sym q) ∙ a) (ap (λ m. list_any (has_bad_literal m) cs) (sym p) ∙ b) h k

@@ -10,13 +10,10 @@ use crate::refusal::SinkRefusal;
 pub fn has_bad_literal(clause: &[i32], top: u32) -> bool
     ensures { result ≡ has_bad_literal top clause.now }
 {
-    for literal in clause {
+    clause.iter().any(|literal| {
         let variable = literal.unsigned_abs();
-        if variable == 0 || variable > top {
-            return true;
-        }
-    }
-    false
+        variable == 0 || variable > top
+    })
 }
 
 // Refuses a clause that is empty or longer than `longest`, or has such a literal.

@@ -33,8 +33,8 @@ pub trait Formula {
     {
         let left = self.length(k).unwrap_or(0).saturating_sub(from) as usize;
         let n = left.min(out.len());
-        for i in 0..n {
-            out[i] = self.literal(k, from + i as u32).unwrap_or(0);
+        for (i, place) in out[..n].iter_mut().enumerate() {
+            *place = self.literal(k, from + i as u32).unwrap_or(0);
         }
         n
     }

@@ -2,9 +2,9 @@
 // false, and any other value, or no byte, meets neither literal. The formula need not be a sink, so
 // a clause may be empty or of any length, and a literal may be any number.
 ghost use Rattle.std.specs.Prelude.{◌≡◌, ◌≤◌, [], slice_index_or};
-ghost use Rattle.cnf.specs.Meeting.{byte_of, first_unmet, meets_byte, met};
+ghost use Rattle.cnf.specs.Meeting.{first_unmet, meets_byte, met, value_of};
 ghost use Rattle.cnf.specs.Satisfaction.{UnmetRight};
-ghost use Rattle.cnf.specs.Writing.{any};
+ghost use Rattle.std.specs.List.{list_any};
 
 use crate::formula::Formula;
 
@@ -20,23 +20,22 @@ pub fn meets(literal: i32, value: u8) -> bool
     }
 }
 
-// The value byte of a literal's variable, or 0 where there is none.
-fn value_of(values: &[u8], literal: i32) -> u8
-    ensures { result ≡ byte_of values.now literal }
+// The value byte of a variable, or 0 where there is none: what a byte that tells nothing says.
+pub fn value_of(values: &[u8], variable: u32) -> u8
+    ensures { result ≡ value_of values.now variable }
 {
-    let variable = literal.unsigned_abs() as usize;
-    if variable == 0 || variable > values.len() {
+    let Some(place) = (variable as usize).checked_sub(1) else {
         return 0;
-    }
-    values[variable - 1]
+    };
+    values.get(place).copied().unwrap_or(0)
 }
 
 // Whether some of these literals is met.
 fn any_met(literals: &[i32], values: &[u8]) -> bool
-    ensures { result ≡ any (met values.now) literals.now }
+    ensures { result ≡ list_any (met values.now) literals.now }
 {
     for literal in literals {
-        if meets(*literal, value_of(values, *literal)) {
+        if meets(*literal, value_of(values, literal.unsigned_abs())) {
             return true;
         }
     }
@@ -45,18 +44,16 @@ fn any_met(literals: &[i32], values: &[u8]) -> bool
 
 // Whether clause k is met.
 fn is_met<F: Formula>(formula: &mut F, k: u32, values: &[u8]) -> bool
-    ensures value { result ≡ any (met values.now) (slice_index_or (F.Formula.clauses formula.old) k []) }
+    ensures value { result ≡ list_any (met values.now) (slice_index_or (F.Formula.clauses formula.old) k []) }
     ensures same { formula.new ≡ formula.old }
 {
     let mut buffer = [0; 256];
     let len = formula.length(k).unwrap_or(0);
-    let mut from = 0;
-    while from < len {
+    for from in (0..len).step_by(256) {
         let n = formula.copy_literals(k, from, &mut buffer);
-        if any_met(&buffer[0..n], values) {
+        if any_met(&buffer[..n], values) {
             return true;
         }
-        from += n as u32;
     }
     false
 }
@@ -67,8 +64,7 @@ pub fn first_unmet_clause<F: Formula>(formula: &mut F, values: &[u8]) -> Option<
     ensures right { UnmetRight values.now (F.Formula.clauses formula.old) result }
     ensures same { formula.new ≡ formula.old }
 {
-    let count = formula.count();
-    for k in 0..count {
+    for k in 0..formula.count() {
         if !is_met(formula, k, values) {
             return Some(k);
         }

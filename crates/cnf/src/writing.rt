@@ -1,10 +1,10 @@
 // Writing all clauses of a formula to a sink, or none. The length of every clause is tried first,
 // then every literal, then the room against their number and what they cost together. A clause that
 // passes has at most 256 literals, so one buffer serves them all.
-ghost use Rattle.std.specs.Prelude.{◌≡◌, ◌≤◌, false, [], ◌∷◌, ◌++◌, length, take, is_ok, if◌then◌else◌, None, OnErr, slice_index_or};
+ghost use Rattle.std.specs.Prelude.{◌≡◌, ◌≤◌, false, [], ◌∷◌, ◌++◌, length, take, is_ok, if◌then◌else◌, None, OnErr, slice_index_or, sum_by};
 ghost use Rattle.cnf.specs.Clauses.{bad_length, has_bad_literal};
-ghost use Rattle.cnf.specs.States.{add_refusal, added};
-ghost use Rattle.cnf.specs.Writing.{any, total, write_refusal, written};
+ghost use Rattle.cnf.specs.Writing.{write_refusal, written};
+ghost use Rattle.std.specs.List.{list_any};
 ghost use Rattle.std.specs.Result.{result_err};
 
 use crate::form::has_bad_literal;
@@ -14,11 +14,10 @@ use crate::sink::Sink;
 
 // Whether some clause is empty or longer than `longest`.
 fn any_bad_length<F: Formula>(source: &mut F, longest: u32) -> bool
-    ensures value { result ≡ any (bad_length longest) (F.Formula.clauses source.old) }
+    ensures value { result ≡ list_any (bad_length longest) (F.Formula.clauses source.old) }
     ensures same { source.new ≡ source.old }
 {
-    let n = source.count();
-    for k in 0..n {
+    for k in 0..source.count() {
         let m = source.length(k).unwrap_or(0);
         if m == 0 || m > longest {
             return true;
@@ -27,93 +26,64 @@ fn any_bad_length<F: Formula>(source: &mut F, longest: u32) -> bool
     false
 }
 
-// Copies clause k to the front of `out`, and gives its length.
-fn copy_clause<F: Formula>(source: &mut F, k: u32, out: &mut [i32]) -> usize
-    requires { length (slice_index_or (F.Formula.clauses source.old) k []) ≤ length out.old }
-    ensures value { result ≡ length (slice_index_or (F.Formula.clauses source.old) k []) }
-    ensures copied { take result out.new ≡ slice_index_or (F.Formula.clauses source.old) k [] }
-    ensures same { source.new ≡ source.old }
-{
-    source.copy_literals(k, 0, out)
+// A formula no clause of which is longer than the buffer to which they are copied, one at a time.
+#[derive(Drop)]
+struct ShortClauses<'f, F: Formula> {
+    source: &'f mut F,
+    buffer: [i32; 256],
+    ghost short: { list_any (bad_length 256) (F.Formula.clauses source.now) ≡ false },
 }
 
-// Whether clause k has a literal that is 0 or stands above `top`.
-fn bad_literal_at<F: Formula>(source: &mut F, k: u32, top: u32, buffer: &mut [i32]) -> bool
-    requires { length (slice_index_or (F.Formula.clauses source.old) k []) ≤ length buffer.old }
-    ensures value { result ≡ has_bad_literal top (slice_index_or (F.Formula.clauses source.old) k []) }
-    ensures same { source.new ≡ source.old }
-{
-    let m = copy_clause(source, k, buffer);
-    has_bad_literal(&buffer[0..m], top)
-}
+impl<'f, F: Formula> ShortClauses<'f, F> {
+    // Copies clause k to the front of the buffer: its length.
+    fn load(&mut self, k: u32) -> usize
+        ensures clause { take result self.new.buffer ≡ slice_index_or (F.Formula.clauses self.old.source.now) k [] }
+        ensures few { result ≤ 256 }
+        ensures same { self.new.source ≡ self.old.source }
+    {
+        self.source.copy_literals(k, 0, &mut self.buffer)
+    }
 
-// Whether some clause has such a literal.
-fn any_bad_literal<F: Formula>(source: &mut F, top: u32, buffer: &mut [i32]) -> bool
-    requires { any (bad_length (length buffer.old)) (F.Formula.clauses source.old) ≡ false }
-    ensures value { result ≡ any (has_bad_literal top) (F.Formula.clauses source.old) }
-    ensures same { source.new ≡ source.old }
-{
-    let n = source.count();
-    for k in 0..n {
-        if bad_literal_at(source, k, top, buffer) {
-            return true;
+    // Whether some clause has a literal that is 0 or stands above `top`.
+    fn any_bad_literal(&mut self, top: u32) -> bool
+        ensures value { result ≡ list_any (has_bad_literal top) (F.Formula.clauses self.old.source.now) }
+        ensures same { self.new.source ≡ self.old.source }
+    {
+        for k in 0..self.source.count() {
+            let m = self.load(k);
+            if has_bad_literal(&self.buffer[..m], top) {
+                return true;
+            }
         }
+        false
     }
-    false
-}
 
-// What clause k costs.
-fn cost_at<F: Formula, S: Sink>(source: &mut F, k: u32, sink: &mut S, buffer: &mut [i32]) -> u32
-    requires { length (slice_index_or (F.Formula.clauses source.old) k []) ≤ length buffer.old }
-    ensures value { result ≡ (S.Sink.state sink.old).cost (slice_index_or (F.Formula.clauses source.old) k []) }
-    ensures most { result ≤ 4096 }
-    ensures same { source.new ≡ source.old }
-    ensures kept { sink.new ≡ sink.old }
-{
-    let m = copy_clause(source, k, buffer);
-    sink.cost(&buffer[0..m])
-}
-
-// What all clauses cost together.
-fn total_cost<F: Formula, S: Sink>(source: &mut F, sink: &mut S, buffer: &mut [i32]) -> u64
-    requires { any (bad_length (length buffer.old)) (F.Formula.clauses source.old) ≡ false }
-    ensures value { result ≡ total (S.Sink.state sink.old).cost (F.Formula.clauses source.old) }
-    ensures same { source.new ≡ source.old }
-    ensures kept { sink.new ≡ sink.old }
-{
-    let n = source.count();
-    let mut sum = 0;
-    for k in 0..n {
-        sum += u64::from(cost_at(source, k, sink, buffer));
+    // What all clauses cost together.
+    fn total_cost<S: Sink>(&mut self, sink: &mut S) -> u64
+        ensures value { result ≡ sum_by (S.Sink.state sink.old).cost (F.Formula.clauses self.old.source.now) }
+        ensures same { self.new.source ≡ self.old.source }
+        ensures kept { sink.new ≡ sink.old }
+    {
+        let mut sum = 0;
+        for k in 0..self.source.count() {
+            let m = self.load(k);
+            sum += u64::from(sink.cost(&self.buffer[..m]));
+        }
+        sum
     }
-    sum
-}
 
-// Adds clause k, which the sink takes.
-fn add_at<F: Formula, S: Sink>(source: &mut F, k: u32, sink: &mut S, buffer: &mut [i32])
-    requires fits { length (slice_index_or (F.Formula.clauses source.old) k []) ≤ length buffer.old }
-    requires taken { add_refusal (S.Sink.state sink.old) (slice_index_or (F.Formula.clauses source.old) k []) ≡ None }
-    ensures after { S.Sink.state sink.new ≡ added (S.Sink.state sink.old) (slice_index_or (F.Formula.clauses source.old) k []) }
-    ensures appended { S.Formula.clauses sink.new ≡ S.Formula.clauses sink.old ++ (slice_index_or (F.Formula.clauses source.old) k [] ∷ []) }
-    ensures lent { S.Sink.names sink.new ≡ S.Sink.names sink.old }
-    ensures same { source.new ≡ source.old }
-{
-    let m = copy_clause(source, k, buffer);
-    let _ = sink.add(&buffer[0..m]);
-}
-
-// Adds all clauses, which the sink takes.
-fn add_all<F: Formula, S: Sink>(source: &mut F, sink: &mut S, buffer: &mut [i32])
-    requires fits { any (bad_length (length buffer.old)) (F.Formula.clauses source.old) ≡ false }
-    requires taken { write_refusal (S.Sink.state sink.old) (F.Formula.clauses source.old) ≡ None }
-    ensures after { S.Sink.state sink.new ≡ written (S.Sink.state sink.old) (F.Formula.clauses source.old) }
-    ensures appended { S.Formula.clauses sink.new ≡ S.Formula.clauses sink.old ++ F.Formula.clauses source.old }
-    ensures lent { S.Sink.names sink.new ≡ S.Sink.names sink.old }
-    ensures same { source.new ≡ source.old }
-{
-    let n = source.count();
-    for k in 0..n {
-        add_at(source, k, sink, buffer);
+    // Adds all clauses, which the sink takes.
+    fn add_all<S: Sink>(&mut self, sink: &mut S)
+        requires { write_refusal (S.Sink.state sink.old) (F.Formula.clauses self.old.source.now) ≡ None }
+        ensures after { S.Sink.state sink.new ≡ written (S.Sink.state sink.old) (F.Formula.clauses self.old.source.now) }
+        ensures appended { S.Formula.clauses sink.new ≡ S.Formula.clauses sink.old ++ F.Formula.clauses self.old.source.now }
+        ensures same { self.new.source ≡ self.old.source }
+        ensures lent { S.Sink.names sink.new ≡ S.Sink.names sink.old }
+    {
+        for k in 0..self.source.count() {
+            let m = self.load(k);
+            let _ = sink.add(&self.buffer[..m]);
+        }
     }
 }
 
@@ -130,17 +100,17 @@ pub fn write_all<F: Formula, S: Sink>(source: &mut F, sink: &mut S) -> Result<()
     if any_bad_length(source, longest) {
         return Err(SinkRefusal::Length);
     }
-    let mut buffer = [0; 256];
-    if any_bad_literal(source, top, &mut buffer) {
+    let mut clauses = ShortClauses {
+        source,
+        buffer: [0; 256],
+    };
+    if clauses.any_bad_literal(top) {
         return Err(SinkRefusal::Literal);
     }
     let (entries, units) = sink.room();
-    if source.count() > entries {
+    if clauses.source.count() > entries || clauses.total_cost(sink) > u64::from(units) {
         return Err(SinkRefusal::Room);
     }
-    if total_cost(source, sink, &mut buffer) > u64::from(units) {
-        return Err(SinkRefusal::Room);
-    }
-    add_all(source, sink, &mut buffer);
+    clauses.add_all(sink);
     Ok(())
 }

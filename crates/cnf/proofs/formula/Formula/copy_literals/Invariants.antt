@@ -4,4 +4,4 @@ use Rattle.cnf.proofs.formula.Formula.copy_literals.Given as goal
 abbrev pub invariant-loop-i : goal.invariant-loop-i
 invariant-loop-i g l =
     (l.self ≡ l.initial.self)
-    × (l.out ≡ take l.i (drop l.from (get_or (g.Self.Formula.clauses l.initial.self) l.k [])) ++ drop l.i l.initial.out)
+    × (l.place-items ≡ take l.i (drop l.from (get_or (g.Self.Formula.clauses l.initial.self) l.k [])) ++ drop l.i l.initial.place-items)

@@ -1,6 +1,0 @@
-use Rattle.std.proofs.Common.{◌≡◌, ◌++◌, take}
-use Rattle.cnf.specs.Writing.{written}
-use Rattle.cnf.proofs.writing.add_all.Given as goal
-
-abbrev pub invariant-loop-k : goal.invariant-loop-k
-invariant-loop-k g l = (l.source ≡ l.initial.source) × (g.S.Sink.state l.sink ≡ written (g.S.Sink.state l.initial.sink) (take l.k (g.F.Formula.clauses l.initial.source))) × (g.S.Formula.clauses l.sink ≡ g.S.Formula.clauses l.initial.sink ++ take l.k (g.F.Formula.clauses l.initial.source)) × (g.S.Sink.names l.sink ≡ g.S.Sink.names l.initial.sink)
