@@ -2,7 +2,7 @@
 use Rattle.std.proofs.Common.{◌≡◌, ℕ, zero, suc, ◌+◌, ◌-◌, ◌<◌, ◌≤◌, List, [], ◌∷◌, ◌++◌, length, get_or, take, drop, set, unwrap_or, sym, refl, ap, ◌∙◌, arith}
 use Rattle.bounded.specs.Lists.{nth}
 use Rattle.bounded.proofs.Entries.{nth_at}
-use Rattle.std.proofs.lemmas.List.{append-nil, append_assoc, drop_all, drop_more, get_or-drop, length-drop, length-take-le, set_at, take_all, take_at, take_more}
+use Rattle.std.proofs.lemmas.List.{append-nil, append_assoc, drop_all, drop_more, get_or-drop, length-drop, length-take-le, set_at, take_more}
 use Rattle.std.specs.Option.{option_map}
 
 -- the length of an entry of a list of lists, or 0, is the length of what stands there
@@ -42,7 +42,3 @@ pub copied_all
     : {X : Type 0} (c out now : List X) (from i n : ℕ) → i ≡ n → now ≡ take i (drop from c) ++ drop i out
     → now ≡ take n (drop from c) ++ drop n out
 copied_all c out now from i n e h = rw e at h
-
-pub copied_whole : {X : Type 0} (c out : List X) (n : ℕ) → n ≡ length c → take n (take n c ++ drop n out) ≡ c
-copied_whole c out n e =
-    let t = take_all n c (omega arith) in ap (λ xs. take n (xs ++ drop n out)) t ∙ take_at c (drop n out) n (sym e)

@@ -1,5 +1,4 @@
 pub mod Copies
-pub mod Forms
 pub mod Unmet
 pub mod Writes
 pub mod Satisfied

@@ -2,7 +2,7 @@
 use Rattle.std.specs.List.{list_any}
 use Rattle.std.proofs.Common.{◌≡◌, ℕ, zero, suc, ◌+◌, ◌-◌, ◌<◌, min, Bool, true, false, eqb, ◌⊎◌, List, [], ◌∷◌, ◌++◌, length, get_or, take, drop, ℤ, pos, negsuc, Some, None, sym, refl, ap, ◌∙◌, inl, inr, arith}
 use Rattle.std.proofs.Math.Seq.{take-add}
-use Rattle.std.proofs.lemmas.List.{get_or_past, length-drop, length-take-le, take-append-drop, take_at, take_min}
+use Rattle.std.proofs.lemmas.List.{length-drop, length-take-le, take-append-drop, take_at, take_min}
 use Rattle.std.proofs.lemmas.List.Folds.{list_any-append}
 use Rattle.std.proofs.lemmas.Bool.{both_ways, eq-eqb, eqb-true, ne_eqb, or_cases, or_from, or_left, or_right}
 use Rattle.std.proofs.lemmas.Bool.Decides.{nat_tests}
@@ -11,14 +11,6 @@ use Rattle.cnf.specs.Clauses.{Clause, variable}
 use Rattle.cnf.specs.Meeting.{byte_of, first_unmet, met}
 use Rattle.cnf.specs.Satisfaction.{Holds, Meets, UnmetRight, setting}
 use Rattle.cnf.proofs.Writes.{none_at}
-
--- bytes
-pub byte_none
-    : (values : List ℕ) (z : ℤ) (v : ℕ) → v ≡ variable z → (v ≡ 0) ⊎ ((v ≡ 0 → ⊥) × (length values < v)) → 0 ≡ byte_of values z
-byte_none values z v e (inl h) = rw (eq-eqb (variable z) 0 (sym e ∙ h))
-byte_none values z v e (inr h) =
-    let p = get_or_past values (variable z - 1) 0 (omega (arith, e, h.1)) in
-    rw (ne_eqb (variable z) 0 (λ q. h.0 (e ∙ q))) (sym p)
 
 byte_some : (values : List ℕ) (z : ℤ) → (variable z ≡ 0 → ⊥) → byte_of values z ≡ get_or values (variable z - 1) 0
 byte_some values z h = rw (ne_eqb (variable z) 0 h)

@@ -104,11 +104,3 @@ step_taken s cs k l h =
     (ap (λ m. has_bad_literal m c) (written_top s (take k cs)) ∙ none_at (has_bad_literal s.top) cs k [] l t.clean)
     e
     u
-
-writes_by : (a b : Bool) (n e t u : ℕ) → a ≡ false → b ≡ false → n ≤ e → t ≤ u → ◌≡◌ {A = Option SinkRefusal} (cond a (Some Length) (cond b (Some Literal) (cond (ltb e n || ltb u t) (Some Room) None))) None
-writes_by a b n e t u p q h k = grind (arith, nat_tests)
-
--- what was asked says that they are not refused
-pub writes_all : (s : State) (cs : List Clause) (top longest : ℕ) → top ≡ s.top → longest ≡ s.longest → list_any (bad_length longest) cs ≡ false → list_any (has_bad_literal top) cs ≡ false → length cs ≤ s.entries → sum_by s.cost cs ≤ s.units → write_refusal s cs ≡ None
-writes_all s cs top longest p q a b h k =
-    writes_by _ _ (length cs) s.entries (sum_by s.cost cs) s.units (ap (λ m. list_any (bad_length m) cs) (sym q) ∙ a) (ap (λ m. list_any (has_bad_literal m) cs) (sym p) ∙ b) h k

@@ -3,7 +3,7 @@ use Rattle.std.proofs.Common.{◌≡◌, ℕ, zero, suc, ◌+◌, ◌*◌, ◌^�
 use Rattle.graph.specs.Counts.{count}
 use Rattle.sheet.proofs.Counts.{count_most}
 use Rattle.sheet.specs.Phases.{is_fresh}
-use Rattle.sheet.specs.View.{View}
+use Rattle.sheet.specs.View.{View, blank_view}
 use Rattle.sheet.specs.declared.phase.Phase.{Phase}
 use Rattle.sheet.specs.Tables.{Above, Apart, Below, Joins, Staying, Table, Upto, blank, table}
 
@@ -25,21 +25,23 @@ blank_table = λ i u w. go u w (ltb u 64 && ltb w 64) i
     go u w false = refl
 
 -- what the type of a sheet asks of its fields
-pub record Keeps (f : Phase) (n v next : ℕ) (pipe arc : Table) (out : List Bool) : Type 0 where
-  pub nodes_few : (1 ≤ n) × (n ≤ 64)
-  pub valves_few : (1 ≤ v) × (v ≤ 60000)
-  pub next_above : (v < next) × (next < 2 ^ 31)
-  pub pipes_join : Joins n pipe
-  pub pipes_upto : Upto v pipe
-  pub arcs_join : Joins n arc
-  pub arcs_stay : Staying out arc
-  pub arcs_above : Above v arc
-  pub arcs_below : Below next arc
-  pub arcs_apart : Apart arc
-  pub fresh_next : T (is_fresh f) → next ≡ v + 1
-  pub fresh_arcs : (u w : ℕ) → T (is_fresh f) → arc u w ≡ 0
-  pub fresh_stays : (u : ℕ) → T (is_fresh f) → (T (get_or out u false) → ⊥)
-  pub next_few : next + 4096 * count 64 (λ u. not (get_or out u false)) ≤ 326241
+abbrev pub Keeps : Phase → ℕ → ℕ → ℕ → Table → Table → List Bool → Type 0
+Keeps f n v next pipe arc out = record {
+  nodes_few : (1 ≤ n) × (n ≤ 64);
+  valves_few : (1 ≤ v) × (v ≤ 60000);
+  next_above : (v < next) × (next < 2 ^ 31);
+  pipes_join : Joins n pipe;
+  pipes_upto : Upto v pipe;
+  arcs_join : Joins n arc;
+  arcs_stay : Staying out arc;
+  arcs_above : Above v arc;
+  arcs_below : Below next arc;
+  arcs_apart : Apart arc;
+  fresh_next : T (is_fresh f) → next ≡ v + 1;
+  fresh_arcs : (u w : ℕ) → T (is_fresh f) → arc u w ≡ 0;
+  fresh_stays : (u : ℕ) → T (is_fresh f) → (T (get_or out u false) → ⊥);
+  next_few : next + 4096 * count 64 (λ u. not (get_or out u false)) ≤ 326241;
+}
 
 blank_keeps
     : (f : Phase) (n v : ℕ) → (1 ≤ n) × (n ≤ 64) → (1 ≤ v) × (v ≤ 60000)
@@ -63,44 +65,35 @@ blank_keeps f n v a b =
       next_few = omega (arith, b.1, few);
     }
 
-pub new_keeps
-    : (f : Phase) (n v : ℕ) → (1 ≤ n) × (n ≤ 64) → (1 ≤ v) × (v ≤ 60000)
-    → Keeps f n v (v + 1) (table (replicate 4096 0)) (table (replicate 4096 0)) (replicate 64 false)
-new_keeps f n v a b =
-    subst (λ (t : Table). Keeps f n v (v + 1) t t (replicate 64 false)) (sym blank_table) (blank_keeps f n v a b)
+-- a sheet both of whose tables are blank, and its view
+module _ (f : Phase) (n v : ℕ) (pipe arc : Table) (e : pipe ≡ blank) (d : arc ≡ blank) where
+  pub new_keeps : (1 ≤ n) × (n ≤ 64) → (1 ≤ v) × (v ≤ 60000) → Keeps f n v (v + 1) pipe arc (replicate 64 false)
+  new_keeps a b =
+      subst (λ (t : Table). Keeps f n v (v + 1) t arc (replicate 64 false)) (sym e)
+      (subst (λ (t : Table). Keeps f n v (v + 1) blank t (replicate 64 false)) (sym d) (blank_keeps f n v a b))
 
--- the view of a sheet whose arrays are zeros
-pub new_view
-    : (number : ℕ) (f : Phase) (n v next : ℕ)
-    → ◌≡◌ {A = View}
-    record {
-      number = number;
-      phase = f;
-      nodes = n;
-      valves = v;
-      pipe = table (replicate 4096 0);
-      arc = table (replicate 4096 0);
-      out = λ u. get_or (replicate 64 false) u false;
-      next = next;
-    }
-    record {
-      number = number;
-      phase = f;
-      nodes = n;
-      valves = v;
-      pipe = blank;
-      arc = blank;
-      out = λ _. false;
-      next = next;
-    }
-new_view number f n v next = λ i.
-    record {
-      number = number;
-      phase = f;
-      nodes = n;
-      valves = v;
-      pipe = blank_table i;
-      arc = blank_table i;
-      out = λ u. blank_out 64 u i;
-      next = next;
-    }
+  pub new_view
+      : (number : ℕ)
+      → ◌≡◌ {A = View}
+      record {
+        number = number;
+        phase = f;
+        nodes = n;
+        valves = v;
+        pipe = pipe;
+        arc = arc;
+        out = λ u. get_or (replicate 64 false) u false;
+        next = v + 1;
+      }
+      (blank_view number f n v)
+  new_view number = λ i.
+      record {
+        number = number;
+        phase = f;
+        nodes = n;
+        valves = v;
+        pipe = e i;
+        arc = d i;
+        out = λ u. blank_out 64 u i;
+        next = v + 1;
+      }

@@ -1,10 +1,8 @@
 -- A table that is cleared of one node, pair by pair.
-use Rattle.std.proofs.Common.{◌≡◌, ℕ, ◌+◌, ◌*◌, ◌<◌, Bool, cond, ◌&&◌, ◌||◌, eqb, ltb, List, length, get_or, set, ap, ◌∙◌, arith}
+use Rattle.std.proofs.Common.{◌≡◌, ℕ, ◌+◌, ◌*◌, Bool, cond, ◌&&◌, ◌||◌, eqb, ltb, List, get_or, arith}
 use mathlib.Core.Path.{fun_ext}
-use Rattle.std.proofs.lemmas.List.{length-set}
 use Rattle.std.proofs.lemmas.Bool.Decides.{nat_tests}
 use Rattle.sheet.specs.Tables.{Table, put, table, without}
-use Rattle.sheet.proofs.Tables.{table_set}
 
 -- whether a pair has been cleared once the pairs of v with the nodes below k have been
 abbrev is_cleared : ℕ → ℕ → ℕ → ℕ → Bool
@@ -19,13 +17,8 @@ cleared_none v t = fun_ext (λ a. fun_ext (λ b. go a b (t a b)))
     go : (a b x : ℕ) → x ≡ cond (is_cleared v 0 a b) 0 x
     go a b x = grind (arith, nat_tests)
 
-pub cleared_more
-    : (v k : ℕ) (xs : List ℕ) (t : Table) → length xs ≡ 4096 → v < 64 → k < 64 → table xs ≡ cleared v k t
-    → table (set (set xs (v * 64 + k) 0) (k * 64 + v) 0) ≡ cleared v (k + 1) t
-cleared_more v k xs t n a b e =
-    table_set (set xs (v * 64 + k) 0) k v 0 (length-set xs (v * 64 + k) 0 ∙ n) b a
-    ∙ ap (λ (s : Table). put s k v 0) (table_set xs v k 0 n a b ∙ ap (λ (s : Table). put s v k 0) e)
-    ∙ fun_ext (λ i. fun_ext (λ j. go i j (t i j)))
+pub cleared_more : (v k : ℕ) (t : Table) → put (put (cleared v k t) v k 0) k v 0 ≡ cleared v (k + 1) t
+cleared_more v k t = fun_ext (λ i. fun_ext (λ j. go i j (t i j)))
   where
     go : (i j x : ℕ)
         → cond (eqb i k && eqb j v) 0 (cond (eqb i v && eqb j k) 0 (cond (is_cleared v k i j) 0 x))

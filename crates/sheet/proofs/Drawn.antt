@@ -1,9 +1,8 @@
 -- A draw that is accepted: what it has been asked, and what it leaves.
-use Rattle.std.proofs.Common.{◌≡◌, ℕ, ◌<◌, ◌≤◌, None, ap, ◌∙◌, arith}
+use Rattle.std.proofs.Common.{◌≡◌, ℕ, ◌<◌, ◌≤◌, None, arith}
 use Rattle.std.proofs.lemmas.Bool.Decides.{nat_tests}
-use Rattle.sheet.specs.Drawing.{draw_refusal, draw_step}
-use Rattle.sheet.specs.Tables.{Table, put}
-use Rattle.sheet.specs.View.{View, with_pipes}
+use Rattle.sheet.specs.Drawing.{draw_refusal}
+use Rattle.sheet.specs.View.{View}
 use Rattle.sheet.specs.declared.pipe.Pipe.{Pipe}
 
 pub record Drawable (s : View) (p : Pipe) : Type 0 where
@@ -20,8 +19,3 @@ drawable s m p h =
       apart = λ e. grind (arith, nat_tests);
       valve = grind (arith, nat_tests);
     }
-
-pub drawn_view
-    : (s : View) (m : ℕ) (p : Pipe) (t : Table) → t ≡ put s.pipe p.from p.to p.valve → draw_refusal s m p ≡ None
-    → with_pipes s t ≡ draw_step s m p
-drawn_view s m p t e h = ap (with_pipes s) e ∙ (rw h)

@@ -163,7 +163,7 @@ fit_of s = record {
 pub fit_keeps
     : (s : Sheet) (f : Phase) (out : List Bool) (k : Arcs) → Fit s.nodes s.valves out k → (T (is_fresh f) → ⊥)
     → k.next + 4096 * count 64 (λ u. not (get_or out u false)) ≤ 326241
-    → Keeps f s.nodes s.valves k.next (table s.pipes) k.arc out
+    → Keeps f s.nodes s.valves k.next (table s.pipes.numbers) k.arc out
 fit_keeps s f out k h started few =
     record {
       nodes_few = s.nodes_few;

@@ -8,3 +8,4 @@ pub mod Pairs
 pub mod Facts
 pub mod Degrees
 pub mod Cleared
+mod Tokens

@@ -8,8 +8,8 @@ use Rattle.sheet.specs.Tables.{put}
 use Rattle.std.proofs.lemmas.Nat.{div_below, div-mul-add, mod_below, mod-mul-add, mul-add-lt}
 use Rattle.std.proofs.lemmas.List.FromFn.{get_or-map-range_with_len, length-map-range_with_len}
 use Rattle.std.proofs.ByRecursion.{All-from_get_or, All-get_or}
-use Rattle.std.proofs.lemmas.Bool.{both_ways, cond_both, eqb-false, eqb-true, ltb-false, ltb-true, or_cases, or_parts}
-use Rattle.std.specs.List.{AllByRecursion}
+use Rattle.std.proofs.lemmas.Bool.{and_from, both_ways, cond_both, eqb-false, eqb-true, ltb-false, ltb-true, or_cases, or_parts}
+use Rattle.std.specs.List.{AllByRecursion, list_all}
 
 -- the pairs below n
 pairs_length : (n : ℕ) → length (pairs n) ≡ n * n
@@ -47,6 +47,17 @@ module _ {X : Type 0} (test : X → Bool) (P : X → Type 0) where
       (λ e k. (λ _. k.0, passing_from_kept xs k.1))
       (λ e k. (λ a. absurd (both_ways (test x) e a), passing_from_kept xs k))
       h
+
+-- those that pass a test all do
+pub filter_pass : {X : Type 0} (test : X → Bool) (xs : List X) → list_all test (filter test xs) ≡ true
+filter_pass test [] = refl
+filter_pass test (x ∷ xs) =
+    cond_both (test x) (x ∷ filter test xs) (filter test xs) (λ ys. list_all test ys ≡ true)
+    (λ e. and_from (test x) _ e (filter_pass test xs)) (λ e. filter_pass test xs)
+
+pub pairs_with_pass : (ps : Premises) (n : ℕ) → list_all (has_premises ps) (pairs_with ps n) ≡ true
+unfolding pairs_with
+pairs_with_pass ps n = filter_pass (has_premises ps) (pairs n)
 
 -- the pairs below n with their premises
 module _ (ps : Premises) (n : ℕ) (P : ℕ × ℕ → Type 0) where

@@ -1,46 +1,11 @@
 -- Plans: one pair more, and the clause at a pair.
-use Rattle.std.proofs.Common.{◌≡◌, ℕ, zero, suc, ◌+◌, ◌*◌, ◌/◌, ◌%◌, ◌<◌, ◌≤◌, true, false, cond, eqb, ltb, ◌⊎◌, List, [], ◌∷◌, ◌++◌, map, length, get_or, set, filter, sym, refl, ap, ◌∙◌, inl, inr, arith}
-use Rattle.std.proofs.lemmas.Bool.{cond-false, cond-true, eq-eqb, le-ltb, lt-ltb, ne_eqb, or_from, or_left, or_right}
-use Rattle.std.proofs.lemmas.Nat.{div_below, mod_below, mul-le}
+use Rattle.std.proofs.Common.{◌≡◌, ℕ, ◌+◌, ◌*◌, ◌≤◌, true, false, cond, List, [], ◌∷◌, ◌++◌, map, filter, sym, refl, ap, ◌∙◌, arith}
+use Rattle.std.proofs.lemmas.Nat.{mul-le}
 use Rattle.std.proofs.lemmas.List.FromFn.{filter_of_map_range_with_len_more}
 use Rattle.std.proofs.lemmas.List.{append-nil}
 use Rattle.std.specs.List.{range_with_len}
 use Rattle.sheet.specs.Implications.{Arcs, Premises, has_premises, implication, implications, pair_at, pairs_with, planned}
 use Rattle.sheet.specs.Implications.{with_arc, with_arcs}
-use Rattle.sheet.specs.Tables.{Table, table}
-use Rattle.sheet.proofs.Tables.{table_at, table_set}
-
-abbrev arcs_in : List ℕ → ℕ → Arcs
-arcs_in xs next = record { arc = table xs; next = next }
-
-module _ (xs : List ℕ) (u w next : ℕ) (n : length xs ≡ 4096) (a : u < 64) (b : w < 64) where
-  -- a pair of different nodes without an arc gets one
-  pub arc_given
-      : (u ≡ w → ⊥) → get_or xs (u * 64 + w) 0 ≡ 0
-      → arcs_in (set xs (u * 64 + w) next) (next + 1) ≡ with_arc (arcs_in xs next) (u, w)
-  arc_given d z =
-      let e = table_at xs u w a b in
-      let t = or_from (eqb u w) (ltb 0 (table xs u w)) (ne_eqb u w d) (le-ltb 0 (table xs u w) (omega arith)) in
-      ap (λ (t : Table). record { arc = t; next = next + 1 }) (table_set xs u w next n a b)
-      ∙ sym (cond-false _ (arcs_in xs next) _ t)
-
-  -- any other pair keeps what it has
-  pub arc_kept
-      : (u ≡ w) ⊎ ((u ≡ w → ⊥) × (get_or xs (u * 64 + w) 0 ≡ 0 → ⊥))
-      → arcs_in xs next ≡ with_arc (arcs_in xs next) (u, w)
-  arc_kept (inl e) = sym (cond-true _ (arcs_in xs next) _ (or_left (eqb u w) (ltb 0 (table xs u w)) (eq-eqb u w e)))
-  arc_kept (inr h) =
-      let e = table_at xs u w a b in
-      let d = h.1 in
-      let l : 0 < table xs u w = omega arith in
-      sym (cond-true _ (arcs_in xs next) _ (or_right (eqb u w) (ltb 0 (table xs u w)) (lt-ltb 0 (table xs u w) l)))
-
-some_nodes : (n i : ℕ) → i < n * n → 0 < n
-some_nodes zero i l = absurd (omega arith)
-some_nodes (suc n) i l = omega arith
-
-pub pair_below : (n i : ℕ) → i < n * n → (i / n < n) × (i % n < n)
-pair_below n i l = let p = some_nodes n i l in (div_below i n n p l, mod_below i n p)
 
 pub few_pairs : (n : ℕ) → n ≤ 64 → n * n ≤ 4096
 few_pairs n h = mul-le n n 64 64 h h

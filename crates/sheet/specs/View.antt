@@ -2,6 +2,7 @@
 --     View       number and phase; how many nodes and valves; pipes by their valves and arcs by their variables, 0 for
 --                none; which nodes are out; the next free variable
 --     view s     the view of a sheet in memory
+--     blank_view m f n v    the view of a sheet with nothing drawn, of number m, in the phase f, with n nodes and v valves
 --     unmade     the view of a place where no sheet has been made
 --     new        the view of a new sheet, with nothing drawn
 --     with_pipes s t    the sheet with the pipes t
@@ -30,28 +31,16 @@ view s = record {
   phase = s.phase;
   nodes = s.nodes;
   valves = s.valves;
-  pipe = table s.pipes;
-  arc = table s.arcs;
+  pipe = table s.pipes.numbers;
+  arc = table s.arcs.variables.numbers;
   out = λ u. slice_index_or s.out u false;
-  next = s.next;
+  next = s.arcs.next;
 }
 
-abbrev pub unmade : View
-unmade = record {
-  number = 0;
-  phase = Unmade;
-  nodes = 1;
-  valves = 1;
-  pipe = blank;
-  arc = blank;
-  out = λ _. false;
-  next = 2;
-}
-
-abbrev pub new : ℕ → ℕ → ℕ → View
-new number nodes valves = record {
+abbrev pub blank_view : ℕ → Phase → ℕ → ℕ → View
+blank_view number f nodes valves = record {
   number = number;
-  phase = Drawing;
+  phase = f;
   nodes = nodes;
   valves = valves;
   pipe = blank;
@@ -59,6 +48,12 @@ new number nodes valves = record {
   out = λ _. false;
   next = valves + 1;
 }
+
+abbrev pub unmade : View
+unmade = blank_view 0 Unmade 1 1
+
+abbrev pub new : ℕ → ℕ → ℕ → View
+new number nodes valves = blank_view number Drawing nodes valves
 
 abbrev pub with_pipes : View → Table → View
 with_pipes s t = record {

@@ -3,6 +3,7 @@ ghost use Rattle.sheet.specs.Drawing.{draw_refusal, draw_step};
 ghost use Rattle.sheet.specs.Refusals.{refusal_in, token_in};
 ghost use Rattle.sheet.specs.View.{view};
 ghost use Rattle.std.specs.Prelude.{◌≡◌, OnErr};
+ghost use Rattle.std.specs.Result.{result_err};
 
 use crate::phase::Phase;
 use crate::pipe::Pipe;
@@ -22,37 +23,32 @@ impl Sheet {
         ensures token { token_in result ≡ token }
         ensures same { OnErr result (self.new ≡ self.old) }
     {
-        match self.refusal_of_draw(token.number, pipe) {
-            Some(refusal) => Err(Refused { token, refusal }),
-            None => {
-                self.pipes[pipe.from as usize * 64 + pipe.to as usize] = pipe.valve as u16;
+        match self.check_draw(token.number, pipe) {
+            Ok(()) => {
+                self.pipes.set(pipe.from, pipe.to, pipe.valve);
                 Ok(token)
             }
+            Err(refusal) => Err(Refused { token, refusal }),
         }
     }
 
-    // Why a pipe cannot be drawn with a token of this number, if it cannot.
-    fn refusal_of_draw(&self, number: u32, pipe: Pipe) -> Option<SheetRefusal>
-        ensures { result ≡ draw_refusal (view self.now) number pipe }
+    // Refuses a pipe that cannot be drawn with a token of this number.
+    fn check_draw(&self, number: u32, pipe: Pipe) -> Result<(), SheetRefusal>
+        ensures { result_err result ≡ draw_refusal (view self.now) number pipe }
     {
-        let Phase::Drawing = self.phase else {
-            return Some(SheetRefusal::WrongToken);
-        };
-        if number != self.number {
-            return Some(SheetRefusal::WrongToken);
-        }
+        self.check_token(Phase::Drawing, number)?;
         if pipe.from >= self.nodes || pipe.to >= self.nodes {
-            return Some(SheetRefusal::NoSuchNode);
+            return Err(SheetRefusal::NoSuchNode);
         }
         if pipe.from == pipe.to {
-            return Some(SheetRefusal::SelfLoop);
+            return Err(SheetRefusal::SelfLoop);
         }
-        if pipe.valve < 1 || pipe.valve > self.valves {
-            return Some(SheetRefusal::NoSuchValve);
+        if !(1..=self.valves).contains(&pipe.valve) {
+            return Err(SheetRefusal::NoSuchValve);
         }
-        if self.pipes[pipe.from as usize * 64 + pipe.to as usize] != 0 {
-            return Some(SheetRefusal::PairTaken);
+        if self.valve(pipe.from, pipe.to).is_some() {
+            return Err(SheetRefusal::PairTaken);
         }
-        None
+        Ok(())
     }
 }

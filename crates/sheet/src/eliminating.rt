@@ -1,13 +1,12 @@
 // Elimination of a node: every way through it is bridged by an arc that one clause forces, and then
 // the node and its arcs leave.
-ghost use Rattle.std.specs.Prelude.{◌≡◌, ◌<◌, OnErr};
+ghost use Rattle.std.specs.Prelude.{◌≡◌, OnErr};
 ghost use Rattle.sheet.specs.Eliminating.{elimination_clauses, elimination_refusal, elimination_step, way_through};
 ghost use Rattle.sheet.specs.Refusals.{clauses_after, refusal_in, sink_after, token_in};
-ghost use Rattle.sheet.specs.Tables.{table, without};
 ghost use Rattle.sheet.specs.View.{view};
 ghost use Rattle.std.specs.Result.{result_err};
 
-use crate::implications::{Body, Plan, Rule, write_planned};
+use crate::implications::{Body, Rule, write_planned};
 use crate::phase::Phase;
 use crate::place::Sheet;
 use crate::refusal::{Refused, SheetRefusal};
@@ -24,21 +23,10 @@ struct WaysThrough<'s> {
 impl<'s> Rule for WaysThrough<'s> {
     ghost premises = { λ r. way_through (view r.sheet.now).arc r.node };
 
-    fn body(&self, u: u32, w: u32) -> Body {
-        let into = self.sheet.arc(u, self.node).unwrap_or(0);
-        let from = self.sheet.arc(self.node, w).unwrap_or(0);
-        Body::Two(into, from)
-    }
-}
-
-// Clears the pairs with the node v.
-fn clear_node(arcs: &mut [u32; 4096], v: usize)
-    requires { v < 64 }
-    ensures { table arcs.new ≡ without v (table arcs.old) }
-{
-    for k in 0..64 {
-        arcs[v * 64 + k] = 0;
-        arcs[k * 64 + v] = 0;
+    fn body(&self, u: u32, w: u32) -> Option<Body> {
+        let into = self.sheet.arc(u, self.node)?;
+        let from = self.sheet.arc(self.node, w)?;
+        Some(Body::Two(into, from))
     }
 }
 
@@ -76,23 +64,16 @@ impl Sheet {
         ensures same { OnErr result (self.new ≡ self.old) }
         ensures kept { OnErr result (sink.new ≡ sink.old) }
     {
-        let Phase::Closing = self.phase else {
-            return Err(SheetRefusal::WrongToken);
-        };
-        if number != self.number {
-            return Err(SheetRefusal::WrongToken);
-        }
+        self.check_token(Phase::Closing, number)?;
         if node >= self.nodes {
             return Err(SheetRefusal::NoSuchNode);
         }
-        if self.out[node as usize] {
+        if self.is_eliminated(node) {
             return Err(SheetRefusal::NodeEliminated);
         }
-        let plan = write_planned(self, WaysThrough { sheet: self, node }, sink)?;
-        let Plan { arcs, next, .. } = plan;
+        let mut arcs = write_planned(self, &WaysThrough { sheet: self, node }, sink)?;
+        arcs.variables.clear_node(node);
         self.arcs = arcs;
-        clear_node(&mut self.arcs, node as usize);
-        self.next = next;
         self.out[node as usize] = true;
         Ok(())
     }

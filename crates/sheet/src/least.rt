@@ -1,25 +1,39 @@
 // The least node: the one whose elimination is the cheapest to try first.
-ghost use Rattle.sheet.specs.Least.{LeastRight, better, degree, least_node};
+ghost use Rattle.sheet.specs.Least.{LeastRight, better, degree, in_degree, least_node, out_degree};
 ghost use Rattle.sheet.specs.View.{view};
-ghost use Rattle.std.specs.Prelude.{◌≡◌};
+ghost use Rattle.std.specs.Prelude.{◌≡◌, ◌≤◌, nat_lt};
 
 use crate::place::Sheet;
 
 impl Sheet {
+    // Whether an arc leads from u to w.
+    fn has_arc(&self, u: u32, w: u32) -> bool
+        ensures { result ≡ nat_lt 0 ((view self.now).arc u w) }
+    {
+        self.arc(u, w).is_some()
+    }
+
+    // How many arcs lead out of node u.
+    fn out_degree(&self, u: u32) -> usize
+        ensures value { result ≡ out_degree (view self.now) u }
+        ensures few { result ≤ (view self.now).nodes }
+    {
+        (0..self.nodes).filter(|w| self.has_arc(u, *w)).count()
+    }
+
+    // How many arcs lead into node u.
+    fn in_degree(&self, u: u32) -> usize
+        ensures value { result ≡ in_degree (view self.now) u }
+        ensures few { result ≤ (view self.now).nodes }
+    {
+        (0..self.nodes).filter(|w| self.has_arc(*w, u)).count()
+    }
+
     // How many arcs lead into node u and out of it.
-    fn degree(&self, u: u32) -> u32
+    fn degree(&self, u: u32) -> usize
         ensures { result ≡ degree (view self.now) u }
     {
-        let mut degree = 0;
-        for w in 0..self.nodes {
-            if self.arc(u, w).is_some() {
-                degree += 1;
-            }
-            if self.arc(w, u).is_some() {
-                degree += 1;
-            }
-        }
-        degree
+        self.out_degree(u) + self.in_degree(u)
     }
 
     // Of the best node so far and node u the one with fewer arcs, the earlier one on ties; an
@@ -36,15 +50,19 @@ impl Sheet {
         }
     }
 
+    // The best of all nodes.
+    fn best(&self) -> Option<u32>
+        ensures { result ≡ least_node (view self.now) }
+    {
+        (0..self.nodes).fold(None, |best, u| self.better(best, u))
+    }
+
     // The remaining node with fewest arcs in and out, the smaller number on ties, or none.
+    #[tactic(auto, using(crate::proofs::Degrees::least_right))]
     pub fn least_node(&self) -> Option<u32>
         ensures value { result ≡ least_node (view self.now) }
         ensures right { LeastRight (view self.now) result }
     {
-        let mut least = None;
-        for u in 0..self.nodes {
-            least = self.better(least, u);
-        }
-        least
+        self.best()
     }
 }

@@ -2,11 +2,13 @@
 // go on. Every fact that a sheet always keeps stands in its type.
 #![tactic(auto)]
 
+mod arcs;
 pub mod drawing;
 pub mod eliminating;
 mod implications;
 pub mod least;
 pub mod making;
+mod pair_table;
 pub mod phase;
 pub mod pipe;
 pub mod place;

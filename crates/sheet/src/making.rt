@@ -1,9 +1,11 @@
 // Making a sheet in its place.
 ghost use Rattle.sheet.specs.Making.{make_refusal, make_step};
-ghost use Rattle.sheet.specs.View.{unmade, view};
-ghost use Rattle.std.specs.Prelude.{◌≡◌, IfOk, OnErr};
+ghost use Rattle.sheet.specs.View.{blank_view, unmade, view};
+ghost use Rattle.std.specs.Prelude.{◌≡◌, ◌≤◌, IfOk, OnErr};
 ghost use Rattle.std.specs.Result.{result_err};
 
+use crate::arcs::Arcs;
+use crate::pair_table::PairTable;
 use crate::phase::Phase;
 use crate::place::Sheet;
 use crate::refusal::SheetRefusal;
@@ -14,16 +16,7 @@ impl Sheet {
     pub fn unmade() -> Sheet
         ensures { view result ≡ unmade }
     {
-        Sheet {
-            number: 0,
-            phase: Phase::Unmade,
-            nodes: 1,
-            valves: 1,
-            pipes: [0; 4096],
-            arcs: [0; 4096],
-            out: [false; 64],
-            next: 2,
-        }
+        Sheet::blank(0, Phase::Unmade, 1, 1)
     }
 
     // Makes a sheet here, whatever the place held, and gives the token to draw on it.
@@ -38,22 +31,33 @@ impl Sheet {
         ensures token { IfOk result (λ token. token.number ≡ number) }
         ensures same { OnErr result (self.new ≡ self.old) }
     {
-        if nodes < 1 || nodes > 64 {
+        if !(1..=64).contains(&nodes) {
             return Err(SheetRefusal::NodeCount);
         }
-        if valves < 1 || valves > 60_000 {
+        if !(1..=60_000).contains(&valves) {
             return Err(SheetRefusal::ValveCount);
         }
-        *self = Sheet {
+        *self = Sheet::blank(number, Phase::Drawing, nodes, valves);
+        Ok(DrawingToken { number })
+    }
+
+    // A sheet with nothing drawn.
+    fn blank(number: u32, phase: Phase, nodes: u32, valves: u32) -> Sheet
+        requires nodes { (1 ≤ nodes) × (nodes ≤ 64) }
+        requires valves { (1 ≤ valves) × (valves ≤ 60000) }
+        ensures { view result ≡ blank_view number phase nodes valves }
+    {
+        Sheet {
             number,
-            phase: Phase::Drawing,
+            phase,
             nodes,
             valves,
-            pipes: [0; 4096],
-            arcs: [0; 4096],
+            pipes: PairTable::new(),
+            arcs: Arcs {
+                variables: PairTable::new(),
+                next: valves + 1,
+            },
             out: [false; 64],
-            next: valves + 1,
-        };
-        Ok(DrawingToken { number })
+        }
     }
 }

@@ -1,7 +1,7 @@
 // A pipe: from one node to another, on a valve.
 use std::fmt;
 
-#[derive(Clone, Copy, PartialEq, Eq, Debug)]
+#[derive(Clone, Copy, PartialEq, Eq, Debug, Default)]
 pub struct Pipe {
     pub from: u32,
     pub to: u32,

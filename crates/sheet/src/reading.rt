@@ -38,40 +38,27 @@ impl Sheet {
     pub fn valve(&self, u: u32, w: u32) -> Option<u32>
         ensures { result ≡ entry ((view self.now).pipe u w) }
     {
-        if u >= 64 || w >= 64 {
-            return None;
-        }
-        match self.pipes[u as usize * 64 + w as usize] {
-            0 => None,
-            p => Some(u32::from(p)),
-        }
+        self.pipes.get(u, w)
     }
 
     // The variable of the arc from u to w, or none where there is no such arc.
     pub fn arc(&self, u: u32, w: u32) -> Option<u32>
         ensures { result ≡ entry ((view self.now).arc u w) }
     {
-        if u >= 64 || w >= 64 {
-            return None;
-        }
-        let variable = self.arcs[u as usize * 64 + w as usize];
-        if variable == 0 { None } else { Some(variable) }
+        self.arcs.variables.get(u, w)
     }
 
     // Whether node u has been eliminated.
     pub fn is_eliminated(&self, u: u32) -> bool
         ensures { result ≡ (view self.now).out u }
     {
-        if u >= 64 {
-            return false;
-        }
-        self.out[u as usize]
+        self.out.get(u as usize).copied().unwrap_or(false)
     }
 
     // The next free variable.
     pub fn next_free(&self) -> u32
         ensures { result ≡ (view self.now).next }
     {
-        self.next
+        self.arcs.next
     }
 }

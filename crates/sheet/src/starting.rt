@@ -6,7 +6,7 @@ ghost use Rattle.sheet.specs.View.{view};
 ghost use Rattle.std.specs.Prelude.{◌≡◌, OnErr};
 ghost use Rattle.std.specs.Result.{result_err};
 
-use crate::implications::{Body, Plan, Rule, write_planned};
+use crate::implications::{Body, Rule, write_planned};
 use crate::phase::Phase;
 use crate::place::Sheet;
 use crate::refusal::{Refused, SheetRefusal};
@@ -22,8 +22,8 @@ struct DrawnPipes<'s> {
 impl<'s> Rule for DrawnPipes<'s> {
     ghost premises = { λ r. valve_of (view r.sheet.now).pipe };
 
-    fn body(&self, u: u32, w: u32) -> Body {
-        Body::One(self.sheet.valve(u, w).unwrap_or(0))
+    fn body(&self, u: u32, w: u32) -> Option<Body> {
+        Some(Body::One(self.sheet.valve(u, w)?))
     }
 }
 
@@ -61,16 +61,9 @@ impl Sheet {
         ensures same { OnErr result (self.new ≡ self.old) }
         ensures kept { OnErr result (sink.new ≡ sink.old) }
     {
-        let Phase::Drawing = self.phase else {
-            return Err(SheetRefusal::WrongToken);
-        };
-        if number != self.number {
-            return Err(SheetRefusal::WrongToken);
-        }
-        let plan = write_planned(self, DrawnPipes { sheet: self }, sink)?;
-        let Plan { arcs, next, .. } = plan;
+        self.check_token(Phase::Drawing, number)?;
+        let arcs = write_planned(self, &DrawnPipes { sheet: self }, sink)?;
         self.arcs = arcs;
-        self.next = next;
         self.phase = Phase::Closing;
         Ok(())
     }

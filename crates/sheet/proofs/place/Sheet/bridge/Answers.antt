@@ -1,9 +1,11 @@
-use Rattle.std.proofs.Common.{◌≡◌, true, T, length, set, sym, subst, arith, rules}
+use Rattle.std.proofs.Common.{◌≡◌, true, T, length, set, sym, ◌∙◌, subst, arith, rules}
+use Rattle.sheet.specs.declared.phase.Phase.TheVariants.{Closing}
+use Rattle.sheet.proofs.Tokens.{phase_is}
 use Rattle.std.proofs.lemmas.Bool.{and_parts, ltb-true}
 use Rattle.sheet.specs.Eliminating.{way_through}
 use Rattle.sheet.specs.Implications.{Arcs}
 use Rattle.sheet.specs.Phases.{is_fresh}
-use Rattle.sheet.specs.Plans.{plan_arcs}
+use Rattle.sheet.specs.Plans.{arcs_in}
 use Rattle.sheet.specs.Tables.{Table, table}
 use Rattle.sheet.specs.View.{arcs_of, view}
 use Rattle.sheet.proofs.Counts.{count_staying}
@@ -14,7 +16,7 @@ pub invariant_of-self : goal.invariant_of-self
 invariant_of-self g c =
     let s = c.args.self.now in
     let v = c.args.node in
-    let e = c.in_ok-plan.ensures in
+    let e = c.in_ok-arcs.ensures in
     let fit = fit_planned s.nodes s.valves s.out (way_through (view s).arc v) (arcs_of (view s))
     (λ u w t.
     let p = and_parts _ _ t in
@@ -27,28 +29,12 @@ invariant_of-self g c =
       to_stays = (s.arcs_stay v w from).1;
     })
     (fit_of s) in
-    let planned : Fit s.nodes s.valves s.out (plan_arcs c.in_ok-plan.plan) =
+    let planned : Fit s.nodes s.valves s.out (arcs_in c.in_ok-arcs.arcs) =
     subst (λ (k : Arcs). Fit s.nodes s.valves s.out k) (sym e.arcs) fit in
-    let left = fit_without s.nodes s.valves s.out v (plan_arcs c.in_ok-plan.plan) planned in
+    let left = fit_without s.nodes s.valves s.out v (arcs_in c.in_ok-arcs.arcs) planned in
     let n : length s.out ≡ 64 = search rules in
-    let few = count_staying s.out v n (omega arith) c.if-self-node.false in
-    let k = fit_keeps s s.phase (set s.out v true) (record { arc = table c.clear_node.new.arcs; next = c.in_ok-plan.plan.next })
-    (subst (λ (t : Table). Fit s.nodes s.valves (set s.out v true) (record { arc = t; next = c.in_ok-plan.plan.next })) (sym c.clear_node.ensures) left)
-    (λ t. subst (λ f. T (is_fresh f)) c.in-Closing.is t)
-    (omega (arith, few, e.next, s.next_few)) in
-    record {
-      nodes_few = k.nodes_few;
-      valves_few = k.valves_few;
-      next_above = k.next_above;
-      pipes_join = k.pipes_join;
-      pipes_upto = k.pipes_upto;
-      arcs_join = k.arcs_join;
-      arcs_stay = k.arcs_stay;
-      arcs_above = k.arcs_above;
-      arcs_below = k.arcs_below;
-      arcs_apart = k.arcs_apart;
-      fresh_next = k.fresh_next;
-      fresh_arcs = k.fresh_arcs;
-      fresh_stays = k.fresh_stays;
-      next_few = k.next_few;
-    }
+    let few = count_staying s.out v n (omega arith) (sym c.is_eliminated.ensures ∙ c.if-is_eliminated.false) in
+    fit_keeps s s.phase (set s.out v true) (record { arc = table c.clear_node.new.self.numbers; next = c.in_ok-arcs.arcs.next })
+    (subst (λ (t : Table). Fit s.nodes s.valves (set s.out v true) (record { arc = t; next = c.in_ok-arcs.arcs.next })) (sym c.clear_node.ensures) left)
+    (λ t. subst (λ f. T (is_fresh f)) (sym (phase_is _ Closing s.phase c.in_ok-check_token.ensures)) t)
+    (omega (arith, few, e.next, s.next_few))

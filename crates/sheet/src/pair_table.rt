@@ -1,0 +1,51 @@
+// Numbers for the ordered pairs of 64 nodes: the valves of pipes, the variables of arcs.
+ghost use Rattle.std.specs.Prelude.{◌≡◌, ◌<◌};
+ghost use Rattle.sheet.specs.Tables.{blank, entry, put, table, without};
+
+#[derive(Clone, Copy)]
+pub(crate) struct PairTable {
+    // 64 rows of 64 places, so that ascending places are ascending pairs; 0 for none: an array of
+    // `Option<u32>` would take twice the memory
+    pub(crate) numbers: [u32; 4096],
+}
+
+impl PairTable {
+    // The table with no number in it.
+    pub(crate) fn new() -> PairTable
+        ensures { table result.numbers ≡ blank }
+    {
+        PairTable { numbers: [0; 4096] }
+    }
+
+    // The number at the pair (u, w), or none.
+    pub(crate) fn get(&self, u: u32, w: u32) -> Option<u32>
+        ensures { result ≡ entry (table self.now.numbers u w) }
+    {
+        if u >= 64 || w >= 64 {
+            return None;
+        }
+        match self.numbers[u as usize * 64 + w as usize] {
+            0 => None,
+            number => Some(number),
+        }
+    }
+
+    // Writes a number, or 0 for none.
+    pub(crate) fn set(&mut self, u: u32, w: u32, number: u32)
+        requires { (u < 64) × (w < 64) }
+        ensures { table self.new.numbers ≡ put (table self.old.numbers) u w number }
+    {
+        self.numbers[u as usize * 64 + w as usize] = number;
+    }
+
+    // Clears the pairs with the node v.
+    pub(crate) fn clear_node(&mut self, v: u32)
+        requires { v < 64 }
+        ensures { table self.new.numbers ≡ without v (table self.old.numbers) }
+    {
+        for k in 0..64 {
+            self.set(v, k, 0);
+            self.set(k, v, 0);
+        }
+    }
+}
