@@ -2,7 +2,7 @@
 use Rattle.std.proofs.Common.{◌≡◌, ℕ, zero, suc, ◌+◌, ◌<◌, true, false, ◌⊎◌, List, [], ◌∷◌, ◌++◌, map, length, get_or, ℤ, pos, subst, inl, inr, arith}
 use Rattle.cnf.specs.Clauses.{Clause, minus}
 use Rattle.cnf.specs.Satisfaction.{Holds, Meets, Sat, Values}
-use Rattle.std.proofs.ByRecursion.{All-append, All-from_get_or, All-get_or, All-map}
+use Rattle.cnf.proofs.Every.{all_append, all_from_get_or, all_at, all_map}
 use Rattle.std.proofs.lemmas.List.{get_or-append-add, get_or_append_left, length-append}
 use Rattle.std.specs.List.{AllByRecursion}
 
@@ -43,13 +43,13 @@ module _ (σ : Values) where
 
   -- a list of clauses
   pub sat_all : (cs : List Clause) → Sat σ cs → AllByRecursion (Meets σ) cs
-  sat_all cs h = All-from_get_or (Meets σ) cs [] h
+  sat_all cs h = all_from_get_or (Meets σ) cs [] h
 
   pub all_sat : (cs : List Clause) → AllByRecursion (Meets σ) cs → Sat σ cs
-  all_sat cs h k l = All-get_or (Meets σ) cs k [] l h
+  all_sat cs h k l = all_at (Meets σ) cs k [] l h
 
   pub sat_append : (cs ds : List Clause) → Sat σ cs → Sat σ ds → Sat σ (cs ++ ds)
-  sat_append cs ds h j = all_sat (cs ++ ds) (All-append (Meets σ) cs ds (sat_all cs h) (sat_all ds j))
+  sat_append cs ds h j = all_sat (cs ++ ds) (all_append (Meets σ) cs ds (sat_all cs h) (sat_all ds j))
 
   pub sat_left : (cs ds : List Clause) → Sat σ (cs ++ ds) → Sat σ cs
   sat_left cs ds h k l =
@@ -60,7 +60,7 @@ module _ (σ : Values) where
       subst (Meets σ) (get_or-append-add cs ds k []) (h (length cs + k) (omega (arith, length-append cs ds)))
 
   pub sat_map : {X : Type 0} (f : X → Clause) (xs : List X) → AllByRecursion (λ x. Meets σ (f x)) xs → Sat σ (map f xs)
-  sat_map f xs h = all_sat (map f xs) (All-map (Meets σ) f xs h)
+  sat_map f xs h = all_sat (map f xs) (all_map (Meets σ) f xs h)
 
   pub map_sat : {X : Type 0} (f : X → Clause) (xs : List X) → Sat σ (map f xs) → AllByRecursion (λ x. Meets σ (f x)) xs
   map_sat {X = X} f xs h = go xs (sat_all (map f xs) h)

@@ -14,7 +14,7 @@ use Rattle.sheet.specs.Starting.{start_clauses, started, valve_of}
 use Rattle.sheet.specs.Tables.{Above}
 use Rattle.sheet.specs.View.{View, arcs_of}
 use Rattle.std.proofs.lemmas.List.FromFn.{get_or-range_with_len}
-use Rattle.std.proofs.ByRecursion.{All-get_or, All-map, All-weaker}
+use Rattle.cnf.proofs.Every.{all_at, all_map, all_weaker}
 use Rattle.std.proofs.lemmas.List.{get_or-map, length-map}
 use Rattle.std.proofs.lemmas.Bool.{and_parts, cases_Bool, cases_lt, cond_both, eqb-false, eqb-true, ltb-true, ne_eqb}
 use Rattle.std.specs.List.{range_with_len, AllByRecursion}
@@ -91,7 +91,7 @@ module _ (s : View) (v : ℕ) where
       let P : Clause → Type 0 = AllByRecursion (λ z. s.valves < variable z) in
       let there = planned_gives ps s.nodes (arcs_of s) (omega arith) in
       subst (AllByRecursion P) (sym (implications_mapped ps s.nodes (arcs_of s)))
-      (All-map P f (pairs_with ps s.nodes) (pairs_with_all ps s.nodes (λ p. P (f p)) (λ u w a b e.
+      (all_map P f (pairs_with ps s.nodes) (pairs_with_all ps s.nodes (λ p. P (f p)) (λ u w a b e.
       bridge_above_valves above some (u, w) e (there u w a b e))))
 
 -- the second literal of a clause of start
@@ -120,7 +120,7 @@ module _ (s : View) (fresh : Fresh s) where
 
   drawn_free : AllByRecursion (Free (arcs_of s)) (pairs_with (valve_of s.pipe) s.nodes)
   drawn_free =
-      All-weaker (λ p. has_premises (valve_of s.pipe) p ≡ true) (Free (arcs_of s))
+      all_weaker (λ p. has_premises (valve_of s.pipe) p ≡ true) (Free (arcs_of s))
       (λ p h. (
         eqb-false p.0 p.1 (drawn_differ p.0 p.1 (and_parts (ltb 0 (s.pipe p.0 p.1)) true h).0),
         fresh.no_arcs p.0 p.1,
@@ -140,7 +140,7 @@ module _ (s : View) (fresh : Fresh s) where
         in_turn = λ k h.
             let short : k < length l = omega arith in
             let p = get_or l k (0, 0) in
-            let differ = ne_eqb p.0 p.1 (All-get_or (Free (arcs_of s)) l k (0, 0) short drawn_free).0 in
+            let differ = ne_eqb p.0 p.1 (all_at (Free (arcs_of s)) l k (0, 0) short drawn_free).0 in
             let a = get_or-map (arc_at (arcs_of (started s))) l k (0, 0) 0 short in
             let b = ap (λ xs. get_or xs k 0) numbered.arcs in
             let c = get_or-range_with_len s.next (length l) k 0 short in

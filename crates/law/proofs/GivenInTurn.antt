@@ -5,7 +5,7 @@ use Rattle.sheet.proofs.Pairs.{given, given_keeps, with_arc_cases, with_arcs_kee
 use Rattle.sheet.proofs.Tables.{put_cases}
 use Rattle.sheet.specs.Implications.{Arcs, Premises, has_premises, pair_at, pairs, pairs_with, planned, with_arcs}
 use Rattle.std.proofs.lemmas.Nat.{div-add-mod', le-div}
-use Rattle.std.proofs.ByRecursion.{all_kept_by, All-map, All-weaker}
+use Rattle.cnf.proofs.Every.{all_filter, all_map, all_weaker}
 use Rattle.std.proofs.lemmas.Bool.{cases_eq, cond_both}
 use Rattle.std.specs.List.{range_with_len, AllByRecursion}
 
@@ -157,8 +157,8 @@ earlier_place n a b some h =
 places_ascend : (n a m : ℕ) → 0 < n → Ascending (map (pair_at n) (range_with_len a m))
 places_ascend n a zero some = tt
 places_ascend n a (suc m) some = (
-  All-map (Earlier (pair_at n a)) (pair_at n) (range_with_len (a + 1) m)
-      (All-weaker (λ b. a < b) (λ b. Earlier (pair_at n a) (pair_at n b)) (λ b h. earlier_place n a b some h)
+  all_map (Earlier (pair_at n a)) (pair_at n) (range_with_len (a + 1) m)
+      (all_weaker (λ b. a < b) (λ b. Earlier (pair_at n a) (pair_at n b)) (λ b h. earlier_place n a b some h)
       (range_with_len (a + 1) m) (above_counting a (a + 1) m (omega arith))),
   places_ascend n (a + 1) m some,
 )
@@ -167,7 +167,7 @@ kept_ascend : (q : ℕ × ℕ → Bool) (ps : List (ℕ × ℕ)) → Ascending p
 kept_ascend q [] up = tt
 kept_ascend q (p ∷ ps) up =
     cond_both (q p) (p ∷ filter q ps) (filter q ps) Ascending
-    (λ _. (all_kept_by q (Earlier p) ps up.0, kept_ascend q ps up.1))
+    (λ _. (all_filter (Earlier p) q ps up.0, kept_ascend q ps up.1))
     (λ _. kept_ascend q ps up.1)
 
 pairs_ascend : (ps : Premises) (n : ℕ) → Ascending (pairs_with ps n)

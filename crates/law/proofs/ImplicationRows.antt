@@ -5,7 +5,7 @@ use Rattle.law.specs.ClauseLists.{for_each, those}
 use Rattle.sheet.specs.Implications.{Arcs, Premises, are_there, has_premises, implication, implications, pair_at, pairs, pairs_with, planned}
 use Rattle.std.proofs.lemmas.Nat.{div-mul-add, mod-mul-add}
 use Rattle.std.proofs.lemmas.List.Elements.{filter-append}
-use Rattle.std.proofs.ByRecursion.{kept_by_passes}
+use Rattle.cnf.proofs.Every.{filter_all}
 use Rattle.std.proofs.lemmas.List.{map-append}
 use Rattle.std.proofs.lemmas.Bool.{cases_Bool}
 use Rattle.std.specs.List.{range_with_len, AllByRecursion}
@@ -74,7 +74,7 @@ module _ {Y : Type 0} (f : ℕ × ℕ → Y) (q : ℕ × ℕ → Bool) where
 
 pub pairs_pass : (ps : Premises) (n : ℕ) → AllByRecursion (λ p. has_premises ps p ≡ true) (pairs_with ps n)
 unfolding pairs_with
-pairs_pass ps n = kept_by_passes (has_premises ps) (pairs n)
+pairs_pass ps n = filter_all (has_premises ps) (pairs n)
 
 pub implications_mapped
     : (ps : Premises) (n : ℕ) (k : Arcs)

@@ -7,7 +7,7 @@ use Rattle.sheet.specs.Implications.{with_arc, with_arcs}
 use Rattle.sheet.specs.Tables.{put}
 use Rattle.std.proofs.lemmas.Nat.{div_below, div-mul-add, mod_below, mod-mul-add, mul-add-lt}
 use Rattle.std.proofs.lemmas.List.FromFn.{get_or-map-range_with_len, length-map-range_with_len}
-use Rattle.std.proofs.ByRecursion.{All-from_get_or, All-get_or}
+use Rattle.cnf.proofs.Every.{all_from_get_or, all_at}
 use Rattle.std.proofs.lemmas.Bool.{and_from, both_ways, cond_both, eqb-false, eqb-true, ltb-false, ltb-true, or_cases, or_parts}
 use Rattle.std.specs.List.{AllByRecursion, list_all}
 
@@ -21,7 +21,7 @@ pairs_at n i l = get_or-map-range_with_len (pair_at n) 0 (n * n) i i (0, 0) l (o
 pairs_all : (n : ℕ) (P : ℕ × ℕ → Type 0) → ((u w : ℕ) → u < n → w < n → P (u, w)) → AllByRecursion P (pairs n)
 pairs_all zero P h = tt
 pairs_all (suc m) P h =
-    All-from_get_or P (pairs (suc m)) (0, 0) (λ i l.
+    all_from_get_or P (pairs (suc m)) (0, 0) (λ i l.
     let a : i < suc m * suc m = omega (arith, pairs_length (suc m)) in
     let b = div_below i (suc m) (suc m) (omega arith) a in
     subst P (sym (pairs_at (suc m) i a)) (h _ _ b (mod_below i (suc m) (omega arith))))
@@ -30,7 +30,7 @@ pairs_has : (n : ℕ) (P : ℕ × ℕ → Type 0) → AllByRecursion P (pairs n)
 pairs_has n P h u w a b =
     let l : u * n + w < n * n = mul-add-lt u n w n a b in
     let e = pairs_at n (u * n + w) l ∙ ap₂ (λ (x y : ℕ). (x, y)) (div-mul-add u n w b) (mod-mul-add u n w b) in
-    subst P e (All-get_or P (pairs n) (u * n + w) (0, 0) (omega (arith, pairs_length n)) h)
+    subst P e (all_at P (pairs n) (u * n + w) (0, 0) (omega (arith, pairs_length n)) h)
 
 -- what holds of those that a test keeps, and what holds of those that pass it
 module _ {X : Type 0} (test : X → Bool) (P : X → Type 0) where
