@@ -4,52 +4,12 @@
 
 use cnf::formula::Formula;
 use cnf::sink::Sink;
-use sheet::pipe::Pipe;
 use sheet::place::Sheet;
 use sheet::refusal::{Refused, SheetRefusal};
 use sheet::token::{ClosingToken, DrawingToken};
 use sinks::table::TableSink;
 use std::io;
-
-// A linear congruential sequence.
-#[derive(Drop)]
-struct Sequence {
-    state: u64,
-}
-
-impl Sequence {
-    // The next number below `bound`, or 0 where that is 0.
-    fn below(&mut self, bound: u32) -> u32 {
-        self.state = self
-            .state
-            .wrapping_mul(6_364_136_223_846_793_005)
-            .wrapping_add(1_442_695_040_888_963_407);
-        let high = ((self.state >> 33) & 0x7fff_ffff) as u32;
-        if bound == 0 { 0 } else { high % bound }
-    }
-}
-
-// Tries to draw some pipes; a refused one is passed over.
-fn draw_some(
-    sheet: &mut Sheet,
-    token: DrawingToken,
-    numbers: &mut Sequence,
-    nodes: u32,
-    valves: u32,
-) -> DrawingToken {
-    let mut token = token;
-    let count = numbers.below(nodes.saturating_mul(4));
-    for _ in 0..count {
-        let from = numbers.below(nodes);
-        let to = numbers.below(nodes);
-        let valve = numbers.below(valves).saturating_add(1);
-        token = match sheet.draw(token, Pipe { from, to, valve }) {
-            Ok(token) => token,
-            Err(Refused { token, refusal: _ }) => token,
-        };
-    }
-    token
-}
+use trials::{Sequence, draw_some};
 
 // The node to try next: mostly the least, now and then any number.
 fn choose(sheet: &Sheet, numbers: &mut Sequence) -> u32 {
@@ -114,8 +74,7 @@ fn encode<S: Sink>(
         Ok(closing) => eliminate_some(rt, sheet, closing, numbers, sink)?,
         Err(Refused { token: _, refusal }) => println!(rt; "start {refusal}")?,
     }
-    let count = sink.count();
-    for k in 0..count {
+    for k in 0..sink.count() {
         print_clause(rt, sink, k)?;
     }
     Ok(())
@@ -131,7 +90,7 @@ fn case(rt: &HostRuntime, number: u32, numbers: &mut Sequence) -> io::Result<()>
         Err(refusal) => return println!(rt; "make {refusal}"),
     };
     println!(rt; "sheet {nodes} {valves}")?;
-    let token = draw_some(&mut sheet, token, numbers, nodes, valves);
+    let token = draw_some(&mut sheet, token, numbers, nodes.saturating_mul(4));
     let mut literals = [0; 600];
     let mut pairs = [(0, 0); 300];
     let room = literals.len().min(numbers.below(200) as usize);

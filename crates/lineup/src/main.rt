@@ -18,63 +18,19 @@ use sinks::offset::Offset;
 use sinks::table::TableSink;
 use std::io;
 
-// The pipes to draw, with the slips of the pencil among them.
-const PIPES: [Pipe; 11] = [
-    Pipe {
-        from: 1,
-        to: 0,
-        valve: 1,
-    },
-    Pipe {
-        from: 2,
-        to: 0,
-        valve: 2,
-    },
-    Pipe {
-        from: 3,
-        to: 0,
-        valve: 3,
-    },
-    Pipe {
-        from: 4,
-        to: 0,
-        valve: 4,
-    },
-    Pipe {
-        from: 0,
-        to: 0,
-        valve: 4,
-    },
-    Pipe {
-        from: 5,
-        to: 1,
-        valve: 5,
-    },
-    Pipe {
-        from: 5,
-        to: 2,
-        valve: 6,
-    },
-    Pipe {
-        from: 5,
-        to: 6,
-        valve: 6,
-    },
-    Pipe {
-        from: 0,
-        to: 4,
-        valve: 8,
-    },
-    Pipe {
-        from: 0,
-        to: 4,
-        valve: 7,
-    },
-    Pipe {
-        from: 4,
-        to: 0,
-        valve: 7,
-    },
+// The pipes to draw, each from a node to a node on a valve, with the slips of the pencil among them.
+const PIPES: [(u32, u32, u32); 11] = [
+    (1, 0, 1),
+    (2, 0, 2),
+    (3, 0, 3),
+    (4, 0, 4),
+    (0, 0, 4),
+    (5, 1, 5),
+    (5, 2, 6),
+    (5, 6, 6),
+    (0, 4, 8),
+    (0, 4, 7),
+    (4, 0, 7),
 ];
 
 // Draws a pipe, and prints it as the sheet has it then, or why it was refused.
@@ -87,11 +43,7 @@ fn draw(
     match sheet.draw(token, pipe) {
         Ok(token) => {
             if let Some(valve) = sheet.valve(pipe.from, pipe.to) {
-                let drawn = Pipe {
-                    from: pipe.from,
-                    to: pipe.to,
-                    valve,
-                };
+                let drawn = Pipe { valve, ..pipe };
                 println!(rt; "{drawn} drawn")?;
             }
             Ok(token)
@@ -106,11 +58,7 @@ fn draw(
 // Judges one reading of the valves, and prints it with the verdict.
 fn judge(rt: &HostRuntime, sheet: &Sheet, values: &[u8]) -> io::Result<()> {
     let mut node_places = [0; 6];
-    let mut pipe_places = [Pipe {
-        from: 0,
-        to: 0,
-        valve: 0,
-    }; 6];
+    let mut pipe_places = [Pipe::default(); 6];
     let mut nodes = Bounded::new(&mut node_places);
     let mut pipes = Bounded::new(&mut pipe_places);
     let answer = judge_valves(sheet, values, &mut nodes, &mut pipes, &mut [0; 6]);
@@ -145,8 +93,7 @@ fn tell_clause<F: Formula>(
 
 // Prints every clause as a formula reads it.
 fn tell<F: Formula>(rt: &HostRuntime, name: &str, formula: &mut F) -> io::Result<()> {
-    let count = formula.count();
-    for k in 0..count {
+    for k in 0..formula.count() {
         tell_clause(rt, name, formula, k)?;
     }
     Ok(())
@@ -190,8 +137,8 @@ fn main(rt: HostRuntime) -> io::Result<()> {
     let nodes = sheet.nodes();
     let valves = sheet.valves();
     println!(rt; "sheet {number} made: {nodes} nodes, {valves} valves")?;
-    for pipe in PIPES {
-        token = draw(&rt, &mut sheet, token, pipe)?;
+    for (from, to, valve) in PIPES {
+        token = draw(&rt, &mut sheet, token, Pipe { from, to, valve })?;
     }
     judge(&rt, &sheet, &[1, 1, 1, 2, 1, 1, 1])?;
     judge(&rt, &sheet, &[1, 1, 1, 1, 1, 1, 1])?;

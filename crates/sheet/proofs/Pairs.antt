@@ -1,14 +1,14 @@
 -- The pairs that start and elimination go over, and the arcs that they plan: arcs keep their variables, and each pair with
 -- premises has an arc.
-use Rattle.std.proofs.Common.{◌≡◌, ℕ, zero, suc, ◌+◌, ◌*◌, ◌/◌, ◌%◌, ◌<◌, ◌≤◌, Bool, true, ◌||◌, eqb, ltb, ◌⊎◌, List, [], ◌∷◌, length, get_or, filter, sym, refl, ◌∙◌, subst, ap₂, inl, inr, arith}
+use Rattle.std.proofs.Common.{◌≡◌, ℕ, zero, suc, ◌+◌, ◌*◌, ◌/◌, ◌%◌, ◌<◌, ◌≤◌, Bool, true, ◌||◌, eqb, ltb, ◌⊎◌, List, [], ◌∷◌, length, get_or, filter, sym, refl, ap, ◌∙◌, subst, ap₂, inl, inr, arith}
 use Rattle.sheet.proofs.Tables.{put_cases}
-use Rattle.sheet.specs.Implications.{Arcs, Premises, are_there, has_premises, pair_at, pairs, pairs_with, planned}
+use Rattle.sheet.specs.Implications.{Arcs, Premises, are_there, has_arc, has_premises, pair_at, pairs, pairs_with, planned}
 use Rattle.sheet.specs.Implications.{with_arc, with_arcs}
-use Rattle.sheet.specs.Tables.{put}
+use Rattle.sheet.specs.Tables.{Table, put}
 use Rattle.std.proofs.lemmas.Nat.{div_below, div-mul-add, mod_below, mod-mul-add, mul-add-lt}
 use Rattle.std.proofs.lemmas.List.FromFn.{get_or-map-range_with_len, length-map-range_with_len}
 use Rattle.cnf.proofs.Every.{all_from_get_or, all_at}
-use Rattle.std.proofs.lemmas.Bool.{and_from, both_ways, cond_both, eqb-false, eqb-true, ltb-false, ltb-true, or_cases, or_parts}
+use Rattle.std.proofs.lemmas.Bool.{and_from, and_parts, both_ways, cases_eq, cond_both, eq-eqb, eqb-false, eqb-true, lt-ltb, ltb-false, ltb-true, or_cases, or_left, or_parts, or_right}
 use Rattle.std.specs.List.{AllByRecursion, list_all}
 
 -- the pairs below n
@@ -47,6 +47,24 @@ module _ {X : Type 0} (test : X → Bool) (P : X → Type 0) where
       (λ e k. (λ _. k.0, passing_from_kept xs k.1))
       (λ e k. (λ a. absurd (both_ways (test x) e a), passing_from_kept xs k))
       h
+
+all_pass : {X : Type 0} (test : X → Bool) (P : X → Type 0) → ((x : X) → P x → test x ≡ true) → (xs : List X) → AllByRecursion P xs → list_all test xs ≡ true
+all_pass test P f [] h = refl
+all_pass test P f (x ∷ xs) h = and_from (test x) _ (f x h.0) (all_pass test P f xs h.1)
+
+passes_at : {X : Type 0} (test : X → Bool) (xs : List X) (k : ℕ) (x : X) → k < length xs → x ≡ get_or xs k x → list_all test xs ≡ true → test x ≡ true
+passes_at test [] k x l e h = absurd (omega arith)
+passes_at test (y ∷ xs) zero x l e h = ap test e ∙ (and_parts (test y) _ h).0
+passes_at test (y ∷ xs) (suc k) x l e h = passes_at test xs k x (omega arith) e (and_parts (test y) _ h).1
+
+pub arc_at_pair
+    : (t : Table) (qs : List (ℕ × ℕ)) (k : ℕ) (p : ℕ × ℕ) → k < length qs → p ≡ get_or qs k p → list_all (has_arc t) qs ≡ true
+    → (p.0 ≡ p.1 → ⊥) → 0 < t p.0 p.1
+arc_at_pair t qs k p l e h d =
+    elim (or_cases (eqb p.0 p.1) (ltb 0 (t p.0 p.1)) (passes_at (has_arc t) qs k p l e h)) [
+      | inl a ↦ absurd (d (eqb-true p.0 p.1 a))
+      | inr a ↦ ltb-true 0 (t p.0 p.1) a
+    ]
 
 -- those that pass a test all do
 pub filter_pass : {X : Type 0} (test : X → Bool) (xs : List X) → list_all test (filter test xs) ≡ true
@@ -143,3 +161,13 @@ module _ (ps : Premises) (n : ℕ) (k : Arcs) where
   planned_gives l =
       pairs_with_has ps n (λ q. (q.0 ≡ q.1 → ⊥) → 0 < (with_arcs k (pairs_with ps n)).arc q.0 q.1)
       (with_arcs_gives (pairs_with ps n) k l)
+
+  -- each of the pairs that join two nodes has its arc
+  pub planned_there : 0 < k.next → list_all (has_arc (planned ps n k).arc) (pairs_with ps n) ≡ true
+  unfolding planned
+  planned_there l =
+      all_pass (has_arc (with_arcs k (pairs_with ps n)).arc) _ (λ q h.
+      elim (cases_eq q.0 q.1) [
+        | inl e ↦ or_left (eqb q.0 q.1) _ (eq-eqb q.0 q.1 e)
+        | inr d ↦ or_right (eqb q.0 q.1) _ (lt-ltb 0 _ (h d))
+      ]) (pairs_with ps n) (with_arcs_gives (pairs_with ps n) k l)

@@ -1,10 +1,9 @@
 -- The clauses at a list of pairs, told one by one, and the literals of an implication.
-use Rattle.std.proofs.Common.{◌≡◌, ℕ, zero, suc, ◌+◌, ◌<◌, List, [], ◌∷◌, ◌++◌, map, length, get_or, pos, Some, unwrap_or, sym, refl, ap, ◌∙◌, inl, inr, arith}
+use Rattle.std.proofs.Common.{◌≡◌, ℕ, zero, suc, ◌+◌, ◌<◌, List, [], ◌∷◌, ◌++◌, map, length, get_or, pos, Some, sym, refl, ap, ◌∙◌, arith}
 use Rattle.bounded.specs.Lists.{nth}
 use Rattle.cnf.specs.Clauses.{Clause, minus}
 use Rattle.std.proofs.lemmas.List.{length-map}
-use Rattle.std.proofs.lemmas.Bool.{cases_eq, ne_eqb}
-use Rattle.std.proofs.lemmas.Bool.Decides.{nat_tests}
+use Rattle.std.proofs.lemmas.Bool.{ne_eqb}
 use Rattle.sheet.specs.Implications.{Premises, implication}
 use Rattle.sheet.specs.Tables.{Table, entry}
 
@@ -16,9 +15,9 @@ clause_told f [] k x h e = absurd (omega arith)
 clause_told f (y ∷ xs) zero x h e = ap f (sym e)
 clause_told f (y ∷ xs) (suc k) x h e = clause_told f xs k x (omega arith) e
 
--- a number of a table, read with 0 for none
-pub entry_or_zero : (x : ℕ) → unwrap_or (entry x) 0 ≡ x
-entry_or_zero x = elim (cases_eq x 0) [ inl e ↦ rw e refl | inr ne ↦ grind (arith, nat_tests, ne) ]
+-- a number of a table that is there
+pub entry_there : (x : ℕ) → 0 < x → entry x ≡ Some x
+entry_there x h = rw (ne_eqb x 0 (λ e. omega arith)) refl
 
 -- behind another list
 nth_behind : {X : Type 0} (xs ys : List X) (j : ℕ) → nth (xs ++ ys) (length xs + j) ≡ nth ys j

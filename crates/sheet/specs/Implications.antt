@@ -8,6 +8,7 @@
 --     with_arc k p          the same with an arc at the pair p: where it has none, one on the next free variable. No arc
 --                           leads from a node to itself
 --     with_arcs k ps        an arc at each of the pairs, one after the other
+--     has_arc t p           the pair is one of a node with itself, or has an arc in t
 --     implication vs t p    not all of vs are true, or the arc that t has at the pair p is; at a pair of one node,
 --                           not all of vs are true
 --     planned ps n k        arcs at all pairs below n whose premises are there
@@ -48,6 +49,9 @@ with_arc k p =
 abbrev pub with_arcs : Arcs → List (ℕ × ℕ) → Arcs
 with_arcs k [] = k
 with_arcs k (p ∷ ps) = with_arcs (with_arc k p) ps
+
+abbrev pub has_arc : Table → ℕ × ℕ → Bool
+has_arc t p = p.0 == p.1 || nat_lt 0 (t p.0 p.1)
 
 abbrev pub implication : List ℕ → Table → ℕ × ℕ → Clause
 implication vs t p = map minus vs ++ cond (p.0 == p.1) [] (pos (t p.0 p.1) ∷ [])

@@ -5,7 +5,7 @@
 ghost use Rattle.std.specs.Prelude.{◌≡◌, ℕ, ◌+◌, ◌^◌, ◌<◌, ◌≤◌, true, List, [], map, length, is_some, IfOk, IfSome, OnErr};
 ghost use Rattle.bounded.specs.Lists.{entries, nth, room};
 ghost use Rattle.cnf.specs.Writing.{write_refusal};
-ghost use Rattle.sheet.specs.Implications.{are_there, has_premises, implication, implications, pairs_with, planned};
+ghost use Rattle.sheet.specs.Implications.{are_there, has_arc, has_premises, implication, implications, pairs_with, planned};
 ghost use Rattle.sheet.specs.Plans.{Small, arcs_in, listed};
 ghost use Rattle.sheet.specs.Refusals.{clauses_after, sink_after};
 ghost use Rattle.sheet.specs.Tables.{Below, table};
@@ -91,6 +91,7 @@ pub(crate) struct Planned<'p, R: Rule> {
     pub(crate) arcs: &'p Arcs,
     ghost pairs_few: { length pairs.now ≤ 4096 },
     ghost premises_there: { list_all (has_premises (R.Rule.premises rule.now)) pairs.now ≡ true },
+    ghost arcs_there: { list_all (has_arc (table arcs.now.variables.numbers)) pairs.now ≡ true },
     ghost arcs_small: { Below (2 ^ 31) (table arcs.now.variables.numbers) },
 }
 
@@ -120,7 +121,8 @@ impl<'p, R: Rule> Formula for Planned<'p, R> {
         if u == w || j != body.len() {
             return None;
         }
-        Some(self.arcs.variables.get(u, w).unwrap_or(0) as i32)
+        let variable = self.arcs.variables.get(u, w)?;
+        Some(variable as i32)
     }
 }
 

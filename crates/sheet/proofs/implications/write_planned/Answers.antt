@@ -2,12 +2,12 @@ use Rattle.std.proofs.Common.{◌≡◌, ◌++◌, map, length, ap, ◌∙◌, a
 use Rattle.std.proofs.lemmas.Result.{err_from_is_err_and}
 use Rattle.std.specs.List.{list_all}
 use Rattle.cnf.specs.Writing.{write_refusal, written}
-use Rattle.sheet.specs.Implications.{has_premises, implications}
+use Rattle.sheet.specs.Implications.{has_arc, has_premises, implications}
 use Rattle.sheet.specs.Plans.{arcs_in}
 use Rattle.sheet.specs.Tables.{table}
 use Rattle.sheet.specs.View.{arcs_of, view}
 use Rattle.sheet.proofs.Facts.{below_planned}
-use Rattle.sheet.proofs.Pairs.{pairs_with_pass}
+use Rattle.sheet.proofs.Pairs.{pairs_with_pass, planned_there}
 use Rattle.sheet.proofs.Plans.{implications_are}
 use Rattle.sheet.proofs.Told.{clause_at}
 use Rattle.sheet.proofs.implications.write_planned.Given as given
@@ -23,6 +23,8 @@ invariant_of-planned g c =
     record {
       pairs_few = omega (arith, ap length c.as_slice.ensures, e.few);
       premises_there = ap (list_all (has_premises ps)) told ∙ pairs_with_pass ps s.nodes;
+      arcs_there =
+          (λ i. list_all (has_arc (e.arcs i).arc) (told i)) ∙ planned_there ps s.nodes (arcs_of (view s)) (omega (arith, s.next_above.0));
       arcs_small =
           λ u w. let b = below_planned _ s.nodes (arcs_of (view s)) s.arcs_below (arcs_in c.plan.new.arcs) e.arcs u w in
           omega (arith, e.next, s.next_few);

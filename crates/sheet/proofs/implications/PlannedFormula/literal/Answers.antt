@@ -1,10 +1,26 @@
-use Rattle.std.proofs.Common.{length, pos, Some, unwrap_or, sym, ap, ◌∙◌, arith, w32}
+use Rattle.std.proofs.Common.{◌≡◌, ◌<◌, length, pos, Some, sym, ap, ◌∙◌, arith, w32}
 use Rattle.bounded.specs.Lists.{nth}
 use Rattle.std.proofs.lemmas.Int.{to_z_pos}
 use Rattle.std.proofs.lemmas.Bool.{ltb-true}
 use Rattle.sheet.specs.Tables.{table}
-use Rattle.sheet.proofs.Told.{arc_told, clause_at, clause_told, entry_or_zero}
+use Rattle.sheet.proofs.Pairs.{arc_at_pair}
+use Rattle.sheet.proofs.Told.{arc_told, clause_at, clause_told, entry_there}
+use Rattle.sheet.proofs.implications.PlannedFormula.literal.Given as given
 use Rattle.sheet.proofs.implications.PlannedFormula.literal.Goals as goal
+use Rattle.sheet.proofs.implications.PlannedFormula.literal.Goals.{After-get-2}
+
+-- a planned pair of two nodes has its arc
+there : (g : given.Over) (c : goal.After-get-2 g) → 0 < table c.args.self.now.arcs.now.variables.numbers c.in_ok-u.field-0.now.0 c.in_ok-u.field-0.now.1
+there g c =
+    let s = c.args.self.now in
+    let look = c.in_ok-u.ensures.lookup in
+    arc_at_pair (table s.arcs.now.variables.numbers) s.pairs.now c.args.k c.in_ok-u.field-0.now (ltb-true _ _ (sym look.0)) look.1
+    s.arcs_there c.if-u-w.false
+
+pub returns-in_err-variable-clause-value : goal.returns-in_err-variable-clause-value
+returns-in_err-variable-clause-value g c =
+    let h = there g (goal.at.returns-in_err-variable-clause-value g c).After-get-2 in
+    let e = c.in_err-variable.ensures ∙ entry_there _ h in absurd (grind (arith, e))
 
 pub returns-clause-value : goal.returns-clause-value
 returns-clause-value g c =
@@ -14,8 +30,10 @@ returns-clause-value g c =
     let look = c.in_ok-u.ensures.lookup in
     let told = clause_told (clause_at (g.R.Rule.premises s.rule.now) (table s.arcs.now.variables.numbers)) s.pairs.now c.args.k p
     (ltb-true _ _ (sym look.0)) look.1 in
-    let is = c.unwrap_or.ensures ∙ ap (λ o. unwrap_or o 0) c.get-2.ensures ∙ entry_or_zero (t p.0 p.1) in
-    ap Some (to_z_pos w32 _ (omega (arith, is, s.arcs_small p.0 p.1)) ∙ ap pos is)
+    let is : Some c.in_ok-variable.variable ≡ Some (table s.arcs.now.variables.numbers p.0 p.1) =
+    c.in_ok-variable.ensures ∙ entry_there _ (there g (goal.at.returns-clause-value g c).After-get-2) in
+    let v : c.in_ok-variable.variable ≡ table s.arcs.now.variables.numbers p.0 p.1 = cc in
+    ap Some (to_z_pos w32 _ (omega (arith, v, s.arcs_small p.0 p.1)) ∙ ap pos v)
     ∙ arc_told (g.R.Rule.premises s.rule.now p.0 p.1) (table s.arcs.now.variables.numbers) p.0 p.1 c.args.j c.if-u-w.false
     (c.if-j-len.false ∙ c.len.ensures ∙ ap length c.in_ok-body.ensures.value)
     ∙ ap (λ l. nth l c.args.j) (sym told)
