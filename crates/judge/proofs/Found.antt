@@ -1,41 +1,38 @@
--- What is found where some node cannot be placed.
-use Rattle.std.proofs.Common.{◌≡◌, ℕ, ◌<◌, true, List, None, Ok, sym, refl, ap, ◌∙◌, subst, arith}
-use Rattle.bounded.specs.Lists.{Replaced}
+-- What the lists hold where a ring is found, and where every node is placed.
+use Rattle.std.proofs.Common.{◌≡◌, ℕ, ◌≤◌, true, false, List, [], length, Ok, ap, subst, arith}
+use Rattle.bounded.specs.Lists.{Replaced, entries}
 use Rattle.bounded.specs.declared.Bounded.{Bounded}
-use Rattle.sheet.specs.Tables.{Table}
+use Rattle.sheet.specs.View.{View}
 use Rattle.sheet.specs.declared.pipe.Pipe.{Pipe}
-use Rattle.std.proofs.lemmas.Bool.{lt-ltb}
-use Rattle.std.specs.Option.{option_map}
-use Rattle.judge.specs.Marks.{unmarked}
-use Rattle.judge.specs.Placed.{Placed}
-use Rattle.judge.specs.Placing.{order, outside}
-use Rattle.judge.specs.Values.{first_unknown, opens}
-use Rattle.judge.specs.Verdict.{answered, found, found_nodes, found_pipes, is_stuck, ring_pipes}
-use Rattle.judge.specs.Walking.{ring, ring_among}
-use Rattle.judge.specs.declared.refusal.VerdictRefusal.TheVariants.{UnknownValve}
-use Rattle.judge.specs.declared.verdict.Verdict.TheVariants.{Ring}
-use Rattle.judge.proofs.Walks.{ring_among_same}
+use Rattle.judge.specs.Placing.{order}
+use Rattle.judge.specs.Values.{opens}
+use Rattle.judge.specs.Verdict.{Listed, is_stuck, ring_pipes}
+use Rattle.judge.specs.Walking.{ring}
+use Rattle.judge.specs.declared.verdict.Verdict.TheVariants.{Order, Ring}
+use Rattle.judge.proofs.OrderLaw.{order_count}
+use Rattle.judge.proofs.RingLaw.{ring_few}
 
-pub record NamesRing (pipe : Table) (values : List ℕ) (n : ℕ) (marks : List ℕ) : Type 0 where
-  pub answer : first_unknown n pipe values ≡ None
-      → Ok Ring ≡ answered (option_map UnknownValve (first_unknown n pipe values)) (found (opens pipe values) n)
-  pub nodes : (b c : Bounded ℕ) → Replaced (ring_among (opens pipe values) n (unmarked marks)) b c
-      → Replaced (found_nodes (opens pipe values) n) b c
-  pub pipes : (b c : Bounded Pipe) → Replaced (ring_pipes pipe (ring_among (opens pipe values) n (unmarked marks))) b c
-      → Replaced (found_pipes pipe (opens pipe values) n) b c
+pub few_in_ring : (s : View) (values ns : List ℕ) → ns ≡ ring (opens s.pipe values) s.nodes → length ns ≤ s.nodes
+few_in_ring s values ns is = rw is (ring_few s.nodes (opens s.pipe values))
 
-pub found_ring
-    : (pipe : Table) (values : List ℕ) (n m k : ℕ) (before marks out : List ℕ) → m ≡ n
-    → Placed (opens pipe values) m before marks out k → k < m → NamesRing pipe values n marks
-found_ring pipe values n m k before marks out e p l =
-    let stuck : is_stuck (opens pipe values) n ≡ true =
-    ap (is_stuck (opens pipe values)) (sym e) ∙ lt-ltb _ _ (omega (arith, p.size, l)) in
-    let is : ring_among (opens pipe values) n (unmarked marks) ≡ ring (opens pipe values) n =
-    ap (λ n. ring_among (opens pipe values) n (unmarked marks)) (sym e)
-    ∙ ring_among_same (opens pipe values) m (unmarked marks) (outside (order (opens pipe values) m)) p.marked
-    ∙ ap (ring (opens pipe values)) e in
-    record {
-      answer = λ none. rw (none, stuck) refl;
-      nodes = λ b c h. rw stuck (subst (λ (ns : List ℕ). Replaced ns b c) is h);
-      pipes = λ b c h. rw stuck (subst (λ (ns : List ℕ). Replaced (ring_pipes pipe ns) b c) is h);
-    }
+pub few_in_order : (s : View) (values ns : List ℕ) → ns ≡ order (opens s.pipe values) s.nodes → length ns ≤ s.nodes
+few_in_order s values ns is = let n = order_count s.nodes (opens s.pipe values) in rw is (omega arith)
+
+module _ (s : View) (values ns : List ℕ) (b c : Bounded ℕ) (d e : Bounded Pipe) where
+  pub lists_ring
+      : is_stuck (opens s.pipe values) s.nodes ≡ true → ns ≡ ring (opens s.pipe values) s.nodes → Replaced ns b c
+      → Replaced (ring_pipes s.pipe ns) d e → Listed s values (Ok Ring) b c d e
+  lists_ring t is n p =
+      record {
+        nodes = rw t (subst (λ (ns : List ℕ). Replaced ns b c) is n);
+        pipes = rw t (subst (λ (ns : List ℕ). Replaced (ring_pipes s.pipe ns) d e) is p);
+      }
+
+  pub lists_order
+      : is_stuck (opens s.pipe values) s.nodes ≡ false → ns ≡ order (opens s.pipe values) s.nodes → Replaced ns b c
+      → entries e ≡ [] → e.places ≡ d.places → Listed s values (Ok Order) b c d e
+  lists_order f is n none same =
+      record {
+        nodes = rw f (subst (λ (ns : List ℕ). Replaced ns b c) is n);
+        pipes = rw f (record { entries_are = none; room_is = ap (λ p. p.now) same; lent = ap (λ p. p.ghost_name) same });
+      }

@@ -1,7 +1,9 @@
 pub mod Cleared
 pub mod DistinctLists
+pub mod First
 pub mod Found
 pub mod OrderLaw
+pub mod Replaced
 pub mod RightAnswer
 pub mod RingLaw
 pub mod RingPipes

@@ -1,22 +1,23 @@
 -- The ring is right: where the order lacks a node, the walk back from source to source among the nodes left finds a ring.
-use Rattle.std.proofs.Common.{◌≡◌, ℕ, zero, suc, ◌+◌, ◌-◌, ◌<◌, ◌≤◌, Bool, true, false, ◌&&◌, eqb, List, [], ◌∷◌, length, get_or, take, sym, ◌∙◌, inl, inr, arith}
+use Rattle.std.proofs.Common.{◌≡◌, ℕ, zero, suc, ◌+◌, ◌-◌, ◌<◌, ◌≤◌, Bool, true, false, ◌&&◌, eqb, List, [], ◌∷◌, ◌++◌, length, get_or, take, drop, sym, ap, ◌∙◌, subst, inl, inr, arith}
 use Rattle.std.proofs.lemmas.List.{get_or-take, length-take, length-take-le}
-use Rattle.std.proofs.lemmas.Bool.{and_from, and_parts, both_ways, cases_lt, eq-eqb, eqb-true, le-ltb, lt-ltb}
+use Rattle.std.proofs.lemmas.Bool.{and_from, and_parts, both_ways, cases_lt, eq-eqb, eqb-true, le-ltb, lt-ltb, ltb-true}
 use Rattle.graph.specs.Counts.{has, least, place}
 use Rattle.graph.specs.Orders.{Distinct, IsRing}
 use Rattle.graph.specs.Walks.{Edges}
 use Rattle.graph.proofs.Counts.{count_some, has_absent, least_none, least_passes}
 use Rattle.judge.specs.Placing.{in_degree, next_node, order, outside}
-use Rattle.judge.specs.Walking.{ring, ring_among, source, walk_back}
+use Rattle.judge.specs.Verdict.{is_stuck}
+use Rattle.judge.specs.Walking.{ring, source, turned, walk_back, way_back}
 use Rattle.judge.proofs.DistinctLists.{Below, below_cons, distinct_cons, distinct_count}
 use Rattle.judge.proofs.OrderLaw.{order_count, order_none_next}
-use Rattle.judge.proofs.TurnedLists.{Linked, turned_length, turned_ring}
+use Rattle.judge.proofs.TurnedLists.{Linked, lowest_is, turned_length, turned_ring}
 
 -- distinct nodes, with an edge from each to the next and from the last to the first
-record Loop (r : Edges) (ns : List ℕ) : Type 0 where
-  some : 0 < length ns
-  distinct : Distinct ns
-  linked : Linked r ns
+pub record Loop (r : Edges) (ns : List ℕ) : Type 0 where
+  pub some : 0 < length ns
+  pub distinct : Distinct ns
+  pub linked : Linked r ns
 
 module _ (n : ℕ) (r : Edges) (unplaced : ℕ → Bool) where
   -- the source of a trail's newest node
@@ -33,14 +34,14 @@ module _ (n : ℕ) (r : Edges) (unplaced : ℕ → Bool) where
       ]
 
   -- distinct nodes below n, the newest of them unplaced, with an edge from each to the next
-  record Trail (trail : List ℕ) : Type 0 where
-    some : 0 < length trail
-    below : Below n trail
-    newest_unplaced : unplaced (get_or trail 0 0) ≡ true
-    distinct : Distinct trail
-    steps : (k : ℕ) → suc k < length trail → r (get_or trail k 0) (get_or trail (suc k) 0) ≡ true
+  pub record Trail (trail : List ℕ) : Type 0 where
+    pub some : 0 < length trail
+    pub below : Below n trail
+    pub newest_unplaced : unplaced (get_or trail 0 0) ≡ true
+    pub distinct : Distinct trail
+    pub steps : (k : ℕ) → suc k < length trail → r (get_or trail k 0) (get_or trail (suc k) 0) ≡ true
 
-  start_trail : (w : ℕ) → w < n → unplaced w ≡ true → Trail (w ∷ [])
+  pub start_trail : (w : ℕ) → w < n → unplaced w ≡ true → Trail (w ∷ [])
   start_trail w l i = record {
     some = omega arith;
     below = below_cons n w [] l (λ k h. absurd (omega arith));
@@ -51,7 +52,7 @@ module _ (n : ℕ) (r : Edges) (unplaced : ℕ → Bool) where
 
   -- no node is next, so each unplaced node below n has an unplaced source
   module _ (none-next : next_node r n unplaced ≡ n) where
-    source_below : (w : ℕ) → w < n → unplaced w ≡ true → source r n unplaced w < n
+    pub source_below : (w : ℕ) → w < n → unplaced w ≡ true → source r n unplaced w < n
     source_below w l i =
         let f = least_none n w (λ w. unplaced w && eqb (in_degree r n unplaced w) 0) (omega (arith, none-next)) in
         elim (cases_lt 0 (in_degree r n unplaced w)) [
@@ -70,7 +71,7 @@ module _ (n : ℕ) (r : Edges) (unplaced : ℕ → Bool) where
       longer_steps zero l = newest_source_passes.1
       longer_steps (suc k) l = t.steps k l
 
-      longer_trail : has trail (newest_source trail) ≡ false → Trail (newest_source trail ∷ trail)
+      pub longer_trail : has trail (newest_source trail) ≡ false → Trail (newest_source trail ∷ trail)
       longer_trail f = record {
         some = omega arith;
         below = below_cons n _ trail newest_source_below t.below;
@@ -109,24 +110,37 @@ module _ (n : ℕ) (r : Edges) (unplaced : ℕ → Bool) where
         ]
 
 module _ (n : ℕ) (r : Edges) where
-  abbrev left : ℕ → Bool
+  abbrev pub left : ℕ → Bool
   left = outside (order r n)
 
-  -- what `ring` turns
-  abbrev found : List ℕ
-  found = walk_back r n left n (least n left ∷ [])
+  -- where some node is left, the least of them is one
+  pub left_some : length (order r n) < n → (least n left < n) × (left (least n left) ≡ true)
+  left_some l = let c = order_count n r in let s = count_some n left (omega arith) in (s, least_passes n left s)
 
-  found_is_loop : length (order r n) < n → Loop r found
-  found_is_loop l =
-      let c = order_count n r in
-      let s = count_some n left (omega arith) in
-      let t = start_trail n r left (least n left) s (least_passes n left s) in
-      walk_loop n r left (order_none_next n r l) n (least n left ∷ []) t (omega arith)
+  pub way_is_loop : length (order r n) < n → Loop r (way_back r n)
+  way_is_loop l =
+      let s = left_some l in
+      walk_loop n r left (order_none_next n r l) n (least n left ∷ []) (start_trail n r left (least n left) s.0 s.1) (omega arith)
 
   pub ring_right : length (order r n) < n → IsRing r (ring r n)
-  ring_right l = let o = found_is_loop l in turned_ring found r o.some o.distinct o.linked
+  ring_right l = let o = way_is_loop l in turned_ring (way_back r n) r o.some o.distinct o.linked
 
-pub ring_among_few : (n : ℕ) (r : Edges) (unplaced : ℕ → Bool) → length (ring_among r n unplaced) ≤ n
-ring_among_few n r unplaced =
-    let m = turned_length (walk_back r n unplaced n (least n unplaced ∷ [])) in
-    let w = walk_few n r unplaced n (least n unplaced ∷ []) in omega arith
+  -- as many nodes as there are left at most
+  pub ring_few : length (ring r n) ≤ n
+  ring_few =
+      let m = turned_length (way_back r n) in let w = walk_few n r left n (least n left ∷ []) in omega arith
+
+  -- the walk's part, turned to its smallest node
+  module _ (part : List ℕ) (t : is_stuck r n ≡ true) (is : part ≡ way_back r n) where
+    way_loop : Loop r part
+    way_loop = subst (Loop r) (sym is) (way_is_loop (ltb-true _ _ t))
+
+    pub way_some : length part ≡ 0 → ⊥
+    way_some e = omega (arith, e, way_loop.some)
+
+    pub way_turned
+        : (low : ℕ) (turn : List ℕ) → low < length part
+        → ((k : ℕ) → k < length part → get_or part low 0 ≤ get_or part k 0) → turn ≡ drop low part ++ take low part
+        → turn ≡ ring r n
+    way_turned low turn l s e =
+        e ∙ ap (λ h. drop h part ++ take h part) (lowest_is part low way_loop.distinct l s) ∙ ap turned is

@@ -1,21 +1,16 @@
--- One turn of each loop that counts, places and walks.
-use Rattle.std.proofs.Common.{◌≡◌, ℕ, suc, ◌+◌, ◌-◌, ◌<◌, ◌≤◌, Bool, true, false, cond, ◌&&◌, eqb, ◌≢◌, List, [], ◌∷◌, ◌++◌, length, get_or, take, set, sym, refl, ap, ◌∙◌, subst, inl, inr, arith}
+-- One turn of the loop that places nodes.
+use Rattle.std.proofs.Common.{◌≡◌, ℕ, suc, ◌+◌, ◌-◌, ◌<◌, ◌≤◌, true, false, cond, ◌&&◌, eqb, List, [], ◌∷◌, ◌++◌, length, get_or, take, set, Some, None, sym, refl, ap, ◌∙◌, subst, inl, inr, arith}
 use Rattle.graph.specs.Counts.{count, least}
 use Rattle.graph.specs.Walks.{Edges}
-use Rattle.graph.proofs.Counts.{count_less, count_more, count_same, has_push, least_passes, least_same}
-use Rattle.std.proofs.lemmas.List.{get_or-set_other, get_or-set_same, length-set, length-take-le, take_more_set}
+use Rattle.graph.proofs.Counts.{count_less, count_same, has_push, least_passes, least_same}
+use Rattle.std.proofs.lemmas.List.{get_or-set_other, get_or-set_same, length-set, take_more_set}
 use Rattle.std.proofs.lemmas.Bool.{and_parts, cases_Bool, cases_eq, le-ltb, lt-ltb}
 use Rattle.std.proofs.lemmas.Bool.Decides.{nat_tests}
+use Rattle.judge.specs.First.{first_below}
 use Rattle.judge.specs.Marks.{unmarked}
 use Rattle.judge.specs.Placed.{Placed}
 use Rattle.judge.specs.Placing.{in_degree, next_node, order, order_from, outside}
-
--- counting one number more that passes, and one that does not
-pub count_in : (k d e : ℕ) (p : ℕ → Bool) → d ≡ count k p → true ≡ p k → e ≡ d + 1 → e ≡ count (k + 1) p
-count_in k d e p h t s = let m = count_more k p in grind (arith, h, t, s, m)
-
-pub count_out : (k d e : ℕ) (p : ℕ → Bool) → d ≡ count k p → false ≡ p k → e ≡ d → e ≡ count (k + 1) p
-count_out k d e p h t s = let m = count_more k p in grind (arith, h, t, s, m)
+use Rattle.judge.proofs.First.{none_found, some_found}
 
 -- the marks of the nodes below n say which are placed
 abbrev pub Matches : ℕ → List ℕ → List ℕ → Type 0
@@ -84,18 +79,17 @@ module _ (r : Edges) (n : ℕ) (marks placed degrees : List ℕ) (m : Matches n 
       ]
 
 -- where the loop that places nodes stands once it has placed k of them
-pub record Placing (r : Edges) (n : ℕ) (before marks out degrees : List ℕ) (k : ℕ) : Type 0 where
+pub record Placing (r : Edges) (n : ℕ) (marks out degrees : List ℕ) (k : ℕ) : Type 0 where
   pub long : length out ≡ 64
   pub degrees_long : length degrees ≡ 64
   pub rest : order_from r n (n - k) (take k out) ≡ order r n
   pub matches : Matches n marks (take k out)
   pub degrees_are : Degrees r n (take k out) degrees
-  pub past : (u : ℕ) → n ≤ u → get_or marks u 0 ≡ get_or before u 0
 
 pub placing_none
     : (r : Edges) (n : ℕ) (marks out degrees : List ℕ) → length out ≡ 64 → length degrees ≡ 64
     → ((u : ℕ) → u < n → get_or marks u 0 ≡ 0) → ((w : ℕ) → w < n → get_or degrees w 0 ≡ count n (λ u. r u w))
-    → Placing r n marks marks out degrees 0
+    → Placing r n marks out degrees 0
 placing_none r n marks out degrees l e z d =
     record {
       long = l;
@@ -103,54 +97,48 @@ placing_none r n marks out degrees l e z d =
       rest = let k : n - 0 ≡ n = omega arith in rw k refl;
       matches = λ u h. ap (λ x. eqb x 0) (z u h);
       degrees_are = d;
-      past = λ u h. refl;
     }
 
 -- the nodes listed are all that can be placed
 placed_all
-    : (r : Edges) (n k : ℕ) (before marks out degrees : List ℕ) → k ≤ n → n ≤ 64 → Placing r n before marks out degrees k
-    → order_from r n (n - k) (take k out) ≡ take k out → Placed r n before marks out k
-placed_all r n k before marks out degrees few low p stop =
+    : (r : Edges) (n k : ℕ) (marks out degrees : List ℕ) → Placing r n marks out degrees k
+    → order_from r n (n - k) (take k out) ≡ take k out → Placed r n marks (take k out)
+placed_all r n k marks out degrees p stop =
     let e : take k out ≡ order r n = sym stop ∙ p.rest in
-    record {
-      few = few;
-      size = sym (length-take-le k out (omega (arith, p.long))) ∙ ap length e;
-      listed = e;
-      marked = λ u h. p.matches u h ∙ ap (λ (ns : List ℕ). outside ns u) e;
-      past = p.past;
-    }
+    record { listed = e; marked = λ u h. p.matches u h ∙ ap (λ (ns : List ℕ). outside ns u) e }
 
 pub placed_full
-    : (r : Edges) (n k : ℕ) (before marks out degrees : List ℕ) → k ≤ n → n ≤ k → n ≤ 64
-    → Placing r n before marks out degrees k → Placed r n before marks out n
+    : (r : Edges) (n k : ℕ) (marks out degrees : List ℕ) → k ≡ n → Placing r n marks out degrees k → Placed r n marks (take n out)
 unfolding order_from
-placed_full r n k before marks out degrees a b low p =
-    let e : k ≡ n = omega arith in
+placed_full r n k marks out degrees e p =
     let z : n - k ≡ 0 = omega arith in
-    subst (Placed r n before marks out) e (placed_all r n k before marks out degrees a low p (rw z refl))
+    subst (λ m. Placed r n marks (take m out)) e (placed_all r n k marks out degrees p (rw z refl))
 
-module _ (r : Edges) (n k : ℕ) (before marks out degrees : List ℕ) (p : Placing r n before marks out degrees k)
-    (l : k < n) (low : n ≤ 64) (w : ℕ) (is : w ≡ least n (λ w. unmarked marks w && eqb (get_or degrees w 0) 0)) where
+module _ (r : Edges) (n k : ℕ) (marks out degrees : List ℕ) (p : Placing r n marks out degrees k) (l : k < n) where
   one_less : n - k ≡ suc (n - (k + 1))
   one_less = omega arith
 
-  pub placed_stop : n ≤ w → Placed r n before marks out k
-  placed_stop h =
-      placed_all r n k before marks out degrees (omega arith) low p
-      (rw one_less (order_stop r n marks (take k out) degrees p.matches p.degrees_are w is _ h))
+  pub placed_stop
+      : None ≡ first_below n (λ w. unmarked marks w && eqb (get_or degrees w 0) 0) → Placed r n marks (take k out)
+  placed_stop none =
+      placed_all r n k marks out degrees p
+      (rw one_less (order_stop r n marks (take k out) degrees p.matches p.degrees_are _ refl _ (none_found n _ none)))
 
-  pub placing_more
-      : (after : List ℕ) → w < n → n ≤ length marks → length after ≡ 64
-      → ((v : ℕ) → v < n → get_or after v 0 ≡ get_or degrees v 0 - cond (r w v) 1 0)
-      → Placing r n before (set marks w 1) (set out k w) after (k + 1)
-  placing_more after h fits e a =
-      let t = take_more_set out k w (omega (arith, p.long)) in
-      record {
-        long = length-set out k w ∙ p.long;
-        degrees_long = e;
-        rest = rw t (sym (order_step r n marks (take k out) degrees p.matches p.degrees_are w is _ h)
-            ∙ ap (λ m. order_from r n m (take k out)) (sym one_less) ∙ p.rest);
-        matches = rw t (matches_more r n marks (take k out) degrees p.matches p.degrees_are w is (omega arith));
-        degrees_are = rw t (degrees_more r n marks (take k out) degrees p.matches p.degrees_are w is after h a);
-        past = λ u b. let ne : u ≢ w = omega arith in get_or-set_other marks w u 1 0 ne ∙ p.past u b;
-      }
+  module _ (low : n ≤ 64) (w : ℕ) (some : Some w ≡ first_below n (λ w. unmarked marks w && eqb (get_or degrees w 0) 0)) where
+    found : (w < n) × (w ≡ least n (λ w. unmarked marks w && eqb (get_or degrees w 0) 0))
+    found = some_found n _ w some
+
+    pub placing_more
+        : (after : List ℕ) → n ≤ length marks → length after ≡ 64
+        → ((v : ℕ) → v < n → get_or after v 0 ≡ get_or degrees v 0 - cond (r w v) 1 0)
+        → Placing r n (set marks w 1) (set out k w) after (k + 1)
+    placing_more after fits e a =
+        let t = take_more_set out k w (omega (arith, p.long)) in
+        record {
+          long = length-set out k w ∙ p.long;
+          degrees_long = e;
+          rest = rw t (sym (order_step r n marks (take k out) degrees p.matches p.degrees_are w found.1 _ found.0)
+              ∙ ap (λ m. order_from r n m (take k out)) (sym one_less) ∙ p.rest);
+          matches = rw t (matches_more r n marks (take k out) degrees p.matches p.degrees_are w found.1 (omega (arith, found.0)));
+          degrees_are = rw t (degrees_more r n marks (take k out) degrees p.matches p.degrees_are w found.1 after found.0 a);
+        }

@@ -34,6 +34,16 @@ lowest_smallest ns (suc k) j l =
       | inr g ↦ rw (lowest_suc ns k, le-ltb _ _ g) (omega arith)
     ]
 
+-- of distinct numbers there is one smallest
+pub lowest_is
+    : (ns : List ℕ) (low : ℕ) → Distinct ns → low < length ns → ((k : ℕ) → k < length ns → get_or ns low 0 ≤ get_or ns k 0)
+    → low ≡ lowest ns (length ns)
+lowest_is ns low d l s =
+    let b = lowest_before ns (length ns) in
+    let a = s (lowest ns (length ns)) (omega arith) in
+    let c = lowest_smallest ns (length ns) low l in
+    distinct_same ns low (lowest ns (length ns)) d l (omega arith) (omega arith)
+
 -- an edge leads from each node of the list to the next, and from the last to the first
 abbrev pub Linked : Edges → List ℕ → Type 0
 Linked r ns =

@@ -1,9 +1,9 @@
 pub mod Values
 pub mod Marks
+pub mod First
 pub mod Placing
 pub mod Placed
 pub mod Walking
-pub mod Walked
 pub mod Refusals
 pub mod Verdict
 pub mod Rightness

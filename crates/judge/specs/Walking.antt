@@ -6,7 +6,8 @@
 --     lowest ns k                         the place of the smallest of the first k nodes of a list
 --     turned ns                           the list from its smallest node on, and then what stands before that
 --     ring_among r n unplaced             the walk from the smallest unplaced node, turned
---     ring r n                            the same among the nodes that cannot be placed in order
+--     way_back r n                        the walk from the smallest node that cannot be placed in order, among those that cannot
+--     ring r n                            that walk, turned
 use Rattle.std.specs.Prelude.{ℕ, zero, suc, ◌+◌, Bool, cond, ◌&&◌, List, [], ◌∷◌, ◌++◌, length, take, drop, nat_lt, slice_index}
 use Rattle.graph.specs.Counts.{least, place}
 use Rattle.graph.specs.Walks.{Edges}
@@ -31,6 +32,9 @@ turned ns = drop (lowest ns (length ns)) ns ++ take (lowest ns (length ns)) ns
 
 abbrev pub ring_among : Edges → ℕ → (ℕ → Bool) → List ℕ
 ring_among r n unplaced = turned (walk_back r n unplaced n (least n unplaced ∷ []))
+
+abbrev pub way_back : Edges → ℕ → List ℕ
+way_back r n = walk_back r n (outside (order r n)) n (least n (outside (order r n)) ∷ [])
 
 abbrev pub ring : Edges → ℕ → List ℕ
 ring r n = ring_among r n (outside (order r n))

@@ -1,29 +1,25 @@
 // The caller's mark bytes, which say what has been placed. However a verdict ends, the marks of its
 // nodes are zero after it, since the guard that holds them clears them when it is dropped.
-ghost use Rattle.judge.specs.Marks.{Cleared};
+ghost use Rattle.std.specs.Prelude.{◌≡◌, length, replicate};
+ghost use Rattle.judge.specs.Marks.{unmarked};
 
-// Mark bytes that are lent: the first n are zero once the guard is gone.
+// Mark bytes that are lent: all are zero once the guard is gone.
 pub(crate) struct Marks<'a> {
     pub(crate) bytes: &'a mut [u8],
-    pub(crate) n: usize,
 }
 
 impl Drop for Marks<'_> {
     fn drop(self)
-        ensures { Cleared self.entry.n self.entry.bytes.now self.exit.0.now }
+        ensures { self.exit.0.now ≡ replicate (length self.entry.bytes.now) 0 }
     {
-        let n = self.n;
-        clear(self.bytes, n);
-        let Marks { bytes: _, n: _ } = self;
+        self.bytes.fill(0);
+        let Marks { bytes: _ } = self;
     }
 }
 
-// Sets the first n bytes to zero.
-pub(crate) fn clear(bytes: &mut [u8], n: usize)
-    ensures { Cleared n bytes.old bytes.new }
+// Whether a node has no mark.
+pub(crate) fn is_unmarked(marks: &[u8], u: u32) -> bool
+    ensures { result ≡ unmarked marks.now u }
 {
-    let end = n.min(bytes.len());
-    for i in 0..end {
-        bytes[i] = 0;
-    }
+    marks.get(u as usize).copied().unwrap_or(0) == 0
 }

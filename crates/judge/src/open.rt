@@ -36,7 +36,13 @@ pub(crate) struct OpenPipes<'s, 'v> {
 }
 
 impl<'s, 'v> Digraph for OpenPipes<'s, 'v> {
+    ghost size = { λ g. (view g.sheet.now).nodes };
+
     ghost edges = { λ g. opens (view g.sheet.now).pipe g.values.now };
+
+    fn nodes(&self) -> u32 {
+        self.sheet.nodes()
+    }
 
     fn leads(&self, u: u32, w: u32) -> bool {
         match self.sheet.valve(u, w) {

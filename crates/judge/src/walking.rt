@@ -1,97 +1,75 @@
 // Finding a ring among the nodes that cannot be placed: every one of them has an edge from another,
 // so a walk back along such edges comes to a node twice. The walk is written from the end of `path`
 // to its front, so that it lies in the direction of the edges.
-ghost use Rattle.std.specs.Prelude.{◌≡◌, ◌≤◌, [], ◌∷◌, length};
-ghost use Rattle.graph.specs.Counts.{least, place};
+ghost use Rattle.std.specs.Prelude.{◌≡◌, ℕ, ◌<◌, ◌≤◌, ◌&&◌, true, false, length, MatchOption, ◌==◌, slice_index};
+ghost use Rattle.judge.specs.First.{first_below};
 ghost use Rattle.judge.specs.Marks.{unmarked};
-ghost use Rattle.judge.specs.Walked.{Lies};
-ghost use Rattle.judge.specs.Walking.{lowest, ring_among, source, walk_back};
+ghost use Rattle.judge.specs.Placing.{order, outside};
+ghost use Rattle.judge.specs.Verdict.{is_stuck};
+ghost use Rattle.judge.specs.Walking.{ring, way_back};
 
 use crate::digraph::Digraph;
+use crate::marks::is_unmarked;
 
-// The smallest node below n without a mark, or n.
-fn first_unmarked(marks: &[u8], n: u32) -> u32
-    requires { n ≤ length marks.now }
-    ensures { result ≡ least n (unmarked marks.now) }
+// The smallest of n nodes without a mark.
+fn first_unmarked(marks: &[u8], n: u32) -> Option<u32>
+    ensures { result ≡ first_below n (unmarked marks.now) }
 {
-    for u in 0..n {
-        if marks[u as usize] == 0 {
-            return u;
-        }
-    }
-    n
+    (0..n).find(|u| is_unmarked(marks, *u))
 }
 
-// The smallest node below n without a mark and with an edge to w, or n.
-fn source_of<G: Digraph>(g: &G, n: u32, marks: &[u8], w: u32) -> u32
-    requires { n ≤ length marks.now }
-    ensures { result ≡ source (G.Digraph.edges g.now) n (unmarked marks.now) w }
+// The smallest node without a mark and with an edge to w.
+fn source_of<G: Digraph>(g: &G, marks: &[u8], w: u32) -> Option<u32>
+    ensures { result ≡ first_below (G.Digraph.size g.now) (λ u. unmarked marks.now u && G.Digraph.edges g.now u w) }
 {
-    for u in 0..n {
-        if marks[u as usize] == 0 && g.leads(u, w) {
-            return u;
-        }
-    }
-    n
+    (0..g.nodes()).find(|u| is_unmarked(marks, *u) && g.leads(*u, w))
 }
 
-// The first place of a node in a list, or the list's length.
-fn place_of(nodes: &[u32], u: u32) -> usize
-    ensures { result ≡ place nodes.now u }
+// The first place of a node in a list.
+fn place_of(nodes: &[u32], u: u32) -> Option<usize>
+    ensures { result ≡ first_below (length nodes.now) (λ k. slice_index nodes.now k == u) }
 {
-    for k in 0..nodes.len() {
-        if nodes[k] == u {
-            return k;
-        }
-    }
-    nodes.len()
+    nodes.iter().position(|node| *node == u)
 }
 
 // The place of the smallest node of a list.
-fn lowest_place(nodes: &[u32]) -> usize
-    ensures { result ≡ lowest nodes.now (length nodes.now) }
+fn lowest_place(nodes: &[u32]) -> Option<usize>
+    ensures { MatchOption result (length nodes.now ≡ 0) (λ low. (low < length nodes.now) × ((k : ℕ) → k < length nodes.now → slice_index nodes.now low ≤ slice_index nodes.now k)) }
 {
-    let mut low = 0;
-    for k in 0..nodes.len() {
-        if nodes[k] < nodes[low] {
-            low = k;
-        }
-    }
-    low
+    (0..nodes.len()).min_by_key(|k| nodes[*k])
 }
 
-// Walks back from the smallest node without a mark until a node repeats: the part of the path from
-// the first place through the one before the second leads round.
-fn walk<G: Digraph>(g: &G, n: u32, marks: &[u8], path: &mut [u32; 65]) -> (usize, usize)
-    requires { (n ≤ 64) × (n ≤ length marks.now) }
-    ensures { Lies (walk_back (G.Digraph.edges g.now) n (unmarked marks.now) n (least n (unmarked marks.now) ∷ [])) path.new result.0 result.1 }
+// Walks back from the smallest node without a mark until a node repeats: the part of the path that
+// leads round. There is none where every node is marked.
+fn walk<'p, G: Digraph>(g: &G, marks: &[u8], path: &'p mut [u32; 65]) -> Option<&'p mut [u32]>
+    requires { (u : ℕ) → u < G.Digraph.size g.now → unmarked marks.now u ≡ outside (order (G.Digraph.edges g.now) (G.Digraph.size g.now)) u }
+    ensures { MatchOption result (is_stuck (G.Digraph.edges g.now) (G.Digraph.size g.now) ≡ false) (λ part. (is_stuck (G.Digraph.edges g.now) (G.Digraph.size g.now) ≡ true) × (part.now ≡ way_back (G.Digraph.edges g.now) (G.Digraph.size g.now))) }
 {
-    path[64] = first_unmarked(marks, n);
-    for step in 0..n {
-        let head = 64 - step as usize;
-        let u = source_of(g, n, marks, path[head]);
-        let at = place_of(&path[head..65], u);
-        if at < 65 - head {
-            return (head, head + at + 1);
+    let n = g.nodes();
+    path[64] = first_unmarked(marks, n)?;
+    for step in 0..n as usize {
+        let head = 64 - step;
+        let u = source_of(g, marks, path[head])?;
+        if let Some(at) = place_of(&path[head..], u) {
+            return Some(&mut path[head..=head + at]);
         }
         path[head - 1] = u;
     }
-    (65, 65)
+    None
 }
 
-// Finds a ring among the nodes without a mark: it lies in the path from the first place on, before
-// the second, its smallest node first.
-pub(crate) fn find_ring<G: Digraph>(
+// Finds the ring among the nodes that cannot be placed and have no mark, its smallest node first:
+// it lies in the path. There is none where every node is placed.
+pub(crate) fn find_ring<'p, G: Digraph>(
     g: &G,
-    n: u32,
     marks: &[u8],
-    path: &mut [u32; 65],
-) -> (usize, usize)
-    requires { (n ≤ 64) × (n ≤ length marks.now) }
-    ensures { Lies (ring_among (G.Digraph.edges g.now) n (unmarked marks.now)) path.new result.0 result.1 }
+    path: &'p mut [u32; 65],
+) -> Option<&'p [u32]>
+    requires { (u : ℕ) → u < G.Digraph.size g.now → unmarked marks.now u ≡ outside (order (G.Digraph.edges g.now) (G.Digraph.size g.now)) u }
+    ensures { MatchOption result (is_stuck (G.Digraph.edges g.now) (G.Digraph.size g.now) ≡ false) (λ nodes. (is_stuck (G.Digraph.edges g.now) (G.Digraph.size g.now) ≡ true) × (nodes.now ≡ ring (G.Digraph.edges g.now) (G.Digraph.size g.now))) }
 {
-    let (from, to) = walk(g, n, marks, path);
-    let low = lowest_place(&path[from..to]);
-    path[from..to].rotate_left(low);
-    (from, to)
+    let part = walk(g, marks, path)?;
+    let low = lowest_place(part)?;
+    part.rotate_left(low);
+    Some(part)
 }

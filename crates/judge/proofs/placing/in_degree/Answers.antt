@@ -1,15 +1,12 @@
-use Rattle.std.proofs.Common.{sym, arith}
-use Rattle.graph.proofs.Counts.{count_zero}
-use Rattle.judge.proofs.Steps.{count_in, count_out}
+use Rattle.std.proofs.Common.{◌∙◌, arith, rules, tests}
+use Rattle.std.proofs.lemmas.Iterator.{YieldsList-from_range}
+use Rattle.std.proofs.lemmas.Iterator.Consumers.{YieldsList-from_filter, count_from_yields_List}
+use Rattle.judge.proofs.First.{filter_count}
 use Rattle.judge.proofs.placing.in_degree.Goals as goal
-use Rattle.judge.proofs.placing.in_degree.Goals.{else-leads, then-leads}
 
-pub loop-u-init : goal.loop-u-init
-loop-u-init g c = (sym (count_zero _), omega arith)
-
-pub loop-u-preserved : goal.loop-u-preserved
-loop-u-preserved g c =
-    elim c.if-leads.branch [
-      | then-leads w ↦ (count_in _ _ _ _ c.loop-u.invariant.0 w.if-leads.ensures w.degree-is, omega (arith, w.degree-is, c.loop-u.invariant.1))
-      | else-leads w ↦ (count_out _ _ _ _ c.loop-u.invariant.0 w.if-leads.ensures w.degree-is, omega (arith, w.degree-is, c.loop-u.invariant.1))
-    ]
+pub returns : goal.returns
+returns g c =
+    count_from_yields_List c.filter.result _ c.count.ensures.ran
+    (YieldsList-from_filter _ (λ u. g.G.Digraph.edges c.args.g.now u c.args.w) (YieldsList-from_range 0 _ (g.G.Digraph.size c.args.g.now) c.filter.ensures.source (omega (arith, c.nodes.ensures.number))) c.filter.ensures.closure
+    (λ x r q k. search (rules, tests)))
+    ∙ filter_count _ _

@@ -5,4 +5,4 @@ use Rattle.judge.proofs.placing.in_degrees.Given as goal
 abbrev pub invariant-loop-w : goal.invariant-loop-w
 invariant-loop-w g l =
     (length l.degrees ≡ 64)
-    × ((k : ℕ) → k < l.w → get_or l.degrees k 0 ≡ count l.n (λ u. g.G.Digraph.edges l.g u k))
+    × ((k : ℕ) → k < l.w → get_or l.degrees k 0 ≡ count (g.G.Digraph.size l.g) (λ u. g.G.Digraph.edges l.g u k))

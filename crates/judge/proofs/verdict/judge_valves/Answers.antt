@@ -1,11 +1,13 @@
-use Rattle.std.proofs.Common.{rules}
+use Rattle.std.proofs.Common.{arith, rules}
 use Rattle.sheet.specs.View.{view}
 use Rattle.std.proofs.lemmas.Bool.Decides.{when_true}
+use Rattle.judge.proofs.Cleared.{cleared_front}
 use Rattle.judge.proofs.RightAnswer.{answer_right}
 use Rattle.judge.proofs.verdict.judge_valves.Goals as goal
 
 pub returns : goal.returns
 returns c =
+    let cleared = cleared_front _ c.args.marks.now _ (omega (arith, c.if-marks-n.false)) c.judge_marked.ensures.marks in
     record {
       answer = search rules;
       lists = c.judge_marked.ensures.lists;

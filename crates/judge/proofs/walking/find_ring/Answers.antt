@@ -1,10 +1,12 @@
-use Rattle.judge.proofs.Walks.{lowest_within, turned_lies}
+use Rattle.judge.proofs.RingLaw.{way_some, way_turned}
 use Rattle.judge.proofs.walking.find_ring.Goals as goal
 
-pub rotate_left-requires : goal.rotate_left-requires
-rotate_left-requires g c = lowest_within _ _ c.lowest_place-low.ensures
+pub returns-in_err-low : goal.returns-in_err-low
+returns-in_err-low g c =
+    let part = c.in_ok-part.ensures in absurd (way_some _ _ _ part.0 part.1 c.in_err-low.ensures)
 
 pub returns : goal.returns
 returns g c =
-    turned_lies _ _ _ _ _ _ c.walk-from.ensures c.lowest_place-low.ensures c.rotate_left.ensures.after
-    c.rotate_left.ensures.len
+    let part = c.in_ok-part.ensures in
+    let low = c.in_ok-low.ensures in
+    (part.0, way_turned _ _ _ part.0 part.1 _ _ low.0 low.1 c.rotate_left.ensures.after)

@@ -1,0 +1,39 @@
+-- A list after `push` and after `replace`, where the places suffice.
+use Rattle.std.proofs.Common.{◌≡◌, ◌+◌, ◌<◌, ◌≤◌, Bool, true, cond, leb, ltb, List, [], ◌∷◌, ◌++◌, length, get_or, drop, set, sym, refl, ap, ◌∙◌, arith}
+use Rattle.bounded.specs.Lists.{Replaced, entries, room}
+use Rattle.bounded.specs.declared.Bounded.{Bounded}
+use Rattle.std.proofs.lemmas.List.{append_assoc, drop_more, length-append, length-drop, length_push, set_at}
+use Rattle.std.proofs.lemmas.Bool.{le-leb, lt-ltb}
+
+-- one entry more, in place of the old ones
+push_room
+    : {T : Type 0} (new : List T) (x : T) (old : List T) → length new < length old
+    → set (new ++ drop (length new) old) (length new) x ≡ (new ++ x ∷ []) ++ drop (length (new ++ x ∷ [])) old
+push_room new x old l =
+    let d = drop_more old (length new) x l in
+    let n : length (new ++ x ∷ []) ≡ length new + 1 = length_push new x in
+    rw (d, set_at new (get_or old (length new) x) (drop (length new + 1) old) x (length new) refl, n)
+    (sym (append_assoc new (x ∷ []) (drop (length new + 1) old)))
+
+pub push_replaced
+    : {T : Type 0} (new : List T) (x : T) (ok : Bool) (b c d : Bounded T) → Replaced new b c → length new < length (room b)
+    → ok ≡ ltb (length (entries c)) (length (room c)) → entries d ≡ cond ok (entries c ++ x ∷ []) (entries c)
+    → room d ≡ cond ok (set (room c) (length (entries c)) x) (room c) → d.places.ghost_name ≡ c.places.ghost_name
+    → Replaced (new ++ x ∷ []) b d
+push_replaced new x ok b c d r l test e m g =
+    let long : length (room c) ≡ length (room b) =
+    ap length r.room_is ∙ length-append new (drop (length new) (room b)) ∙ omega (arith, length-drop (length new) (room b), l) in
+    let t : ok ≡ true = test ∙ lt-ltb _ _ (omega (arith, long, l, ap length r.entries_are)) in
+    record {
+      entries_are = rw t at e ∙ ap (λ xs. xs ++ x ∷ []) r.entries_are;
+      room_is = rw t at m ∙ (λ i. set (r.room_is i) (length (r.entries_are i)) x) ∙ push_room new x (room b) l;
+      lent = g ∙ r.lent;
+    }
+
+pub replace_replaced
+    : {T : Type 0} (new : List T) (ok : Bool) (b c : Bounded T) → length new ≤ length (room b)
+    → ok ≡ leb (length new) (length (room b)) → entries c ≡ cond ok new (entries b)
+    → room c ≡ cond ok (new ++ drop (length new) (room b)) (room b) → c.places.ghost_name ≡ b.places.ghost_name
+    → Replaced new b c
+replace_replaced new ok b c l test e m g =
+    let t : ok ≡ true = test ∙ le-leb _ _ l in record { entries_are = rw t at e; room_is = rw t at m; lent = g }
