@@ -10,5 +10,4 @@ pub mod RingPipes
 pub mod SameFindings
 pub mod Steps
 pub mod TurnedLists
-pub mod Unknown
 pub mod Walks

@@ -20,9 +20,9 @@ use Rattle.judge.specs.Walking.{ring}
 use Rattle.judge.specs.declared.refusal.VerdictRefusal.{VerdictRefusal}
 use Rattle.judge.specs.declared.refusal.VerdictRefusal.TheVariants.{UnknownValve}
 use Rattle.judge.specs.declared.verdict.Verdict.{Verdict}
+use Rattle.judge.proofs.First.{told, untold}
 use Rattle.judge.proofs.OrderLaw.{order_right}
 use Rattle.judge.proofs.RingLaw.{ring_right}
-use Rattle.judge.proofs.Unknown.{told, untold}
 
 -- a pair before the pair of number i has a smaller number
 earlier_pair

@@ -1,31 +1,44 @@
 // Which pipes are open, by the value bytes of their valves.
-ghost use Rattle.std.specs.Prelude.{◌≡◌, ◌-◌, if◌then◌else◌, Some, None};
-ghost use Rattle.judge.specs.Values.{first_unknown, is_known, is_open, is_unknown, opens, value};
+ghost use Rattle.std.specs.Prelude.{◌≡◌, if◌then◌else◌, Some, None};
+ghost use Rattle.judge.specs.Values.{first_unknown, is_known, is_open, is_unknown, opens, position};
 ghost use Rattle.sheet.specs.View.{view};
 
 use crate::digraph::Digraph;
+use cnf::meeting::value_of;
 use sheet::place::Sheet;
+
+// The position of a valve, as its value byte tells it.
+#[derive(Clone, Copy, PartialEq, Eq, Debug)]
+enum Position {
+    Unknown,
+    Open,
+    Shut,
+}
+
+impl From<u8> for Position {
+    fn from(value: u8) -> Position
+        ensures { result ≡ position value }
+    {
+        match value {
+            1 => Position::Open,
+            2 => Position::Shut,
+            _ => Position::Unknown,
+        }
+    }
+}
 
 // Whether a pipe is open at the value byte of its valve: 1 is open.
 pub fn is_open(value: u8) -> bool
     ensures { result ≡ is_open value }
 {
-    value == 1
+    Position::from(value) == Position::Open
 }
 
 // Whether a value byte tells a position: open, or shut, which is 2.
 fn is_known(value: u8) -> bool
     ensures { result ≡ is_known value }
 {
-    is_open(value) || value == 2
-}
-
-// The value byte of a valve, or 0 where there is none.
-fn value_of(values: &[u8], valve: u32) -> u8
-    ensures { result ≡ value values.now valve }
-{
-    let i = valve.saturating_sub(1) as usize;
-    if i < values.len() { values[i] } else { 0 }
+    Position::from(value) != Position::Unknown
 }
 
 // The open pipes of a sheet.
@@ -45,10 +58,9 @@ impl<'s, 'v> Digraph for OpenPipes<'s, 'v> {
     }
 
     fn leads(&self, u: u32, w: u32) -> bool {
-        match self.sheet.valve(u, w) {
-            Some(valve) => is_open(value_of(self.values, valve)),
-            None => false,
-        }
+        self.sheet
+            .valve(u, w)
+            .is_some_and(|valve| is_open(value_of(self.values, valve)))
     }
 }
 
@@ -57,11 +69,9 @@ impl OpenPipes<'_, '_> {
     fn unknown_valve(&self, u: u32, w: u32) -> Option<u32>
         ensures { result ≡ (if is_unknown self.now.values.now ((view self.now.sheet.now).pipe u w) then Some ((view self.now.sheet.now).pipe u w) else None) }
     {
-        let valve = self.sheet.valve(u, w)?;
-        if is_known(value_of(self.values, valve)) {
-            return None;
-        }
-        Some(valve)
+        self.sheet
+            .valve(u, w)
+            .filter(|valve| !is_known(value_of(self.values, *valve)))
     }
 
     // The first drawn valve, by ascending pairs of nodes, whose byte tells no position.
@@ -69,11 +79,6 @@ impl OpenPipes<'_, '_> {
         ensures { result ≡ first_unknown (view self.now.sheet.now).nodes (view self.now.sheet.now).pipe self.now.values.now }
     {
         let n = self.sheet.nodes();
-        for i in 0..n * n {
-            if let Some(valve) = self.unknown_valve(i / n, i % n) {
-                return Some(valve);
-            }
-        }
-        None
+        (0..n * n).find_map(|i| self.unknown_valve(i / n, i % n))
     }
 }

@@ -21,15 +21,11 @@ impl<'n, 'p, 'a, 'b> fmt::Display for Report<'n, 'p, 'a, 'b> {
             Ok(Verdict::Ring) => write!(f, "ring")?,
             Err(refusal) => return write!(f, "{refusal}"),
         }
-        for i in 0..self.nodes.len() {
-            if let Some(node) = self.nodes.get(i) {
-                write!(f, " {node}")?;
-            }
+        for node in self.nodes.as_slice() {
+            write!(f, " {node}")?;
         }
-        for i in 0..self.pipes.len() {
-            if let Some(pipe) = self.pipes.get(i) {
-                write!(f, ", {pipe}")?;
-            }
+        for pipe in self.pipes.as_slice() {
+            write!(f, ", {pipe}")?;
         }
         Ok(())
     }
