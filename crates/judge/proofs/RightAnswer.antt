@@ -108,6 +108,10 @@ module _ (n : ℕ) (pipe : Table) (values : List ℕ) (joins : Joins n pipe) whe
           flows = λ k h. let e = pipe_at k h in rw e (open_parts _ _ (step_open k h));
         }
 
+    -- and each of them is drawn
+    pub step_drawn : (k : ℕ) → k < length ns → 0 < pipe (get_or ns k 0) (after ns k)
+    step_drawn k h = (open_parts _ _ (step_open k h)).0
+
   -- what is found is right
   found_right
       : first_unknown n pipe values ≡ None

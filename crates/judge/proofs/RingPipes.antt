@@ -1,5 +1,5 @@
 -- The pipes of a ring, listed one by one.
-use Rattle.std.proofs.Common.{◌≡◌, ℕ, ◌+◌, List, [], ◌∷◌, ◌++◌, map, get_or, unwrap_or, arith}
+use Rattle.std.proofs.Common.{◌≡◌, ℕ, ◌+◌, List, [], ◌∷◌, ◌++◌, map, get_or, Some, arith}
 use Rattle.bounded.specs.Lists.{Replaced}
 use Rattle.bounded.specs.declared.Bounded.{Bounded}
 use Rattle.sheet.specs.Tables.{Table, entry}
@@ -9,14 +9,10 @@ use Rattle.std.proofs.lemmas.Bool.Decides.{nat_tests}
 use Rattle.std.specs.List.{range_with_len}
 use Rattle.judge.specs.Verdict.{after, ring_pipe}
 
--- an entry of a table, or 0, is the number there
-entry_or_zero : (x : ℕ) → unwrap_or (entry x) 0 ≡ x
-entry_or_zero x = grind (arith, nat_tests)
-
 pub ring_pipe_is
     : (pipe : Table) (ns : List ℕ) (k from to valve : ℕ) → from ≡ get_or ns k 0 → to ≡ after ns k
-    → valve ≡ unwrap_or (entry (pipe from to)) 0 → record { from = from; to = to; valve = valve } ≡ ring_pipe pipe ns k
-ring_pipe_is pipe ns k from to valve f t v = let e = entry_or_zero (pipe from to) in cc
+    → Some valve ≡ entry (pipe from to) → record { from = from; to = to; valve = valve } ≡ ring_pipe pipe ns k
+ring_pipe_is pipe ns k from to valve f t v = let e : valve ≡ pipe from to = grind (arith, nat_tests, v) in cc
 
 -- the pipes of a ring's first nodes, and the pipe of one node more
 pub pipes_more

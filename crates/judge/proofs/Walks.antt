@@ -7,6 +7,7 @@ use Rattle.std.proofs.lemmas.List.{drop_all, drop-set, get_or-drop, length-drop,
 use Rattle.std.proofs.lemmas.Bool.{cases_lt, le-ltb, lt-ltb}
 use Rattle.judge.specs.First.{first_below}
 use Rattle.judge.specs.Marks.{unmarked}
+use Rattle.judge.specs.Placed.{Marked}
 use Rattle.judge.specs.Placing.{order}
 use Rattle.judge.specs.Verdict.{is_stuck}
 use Rattle.judge.specs.Walking.{source, walk_back, way_back}
@@ -38,7 +39,7 @@ pub record Walking (r : Edges) (n : ℕ) (path : List ℕ) (step : ℕ) : Type 0
   pub trail : Trail n r (left n r) (drop (64 - step) path)
   pub rest : walk_back r n (left n r) (n - step) (drop (64 - step) path) ≡ way_back r n
 
-module _ (r : Edges) (n : ℕ) (marks : List ℕ) (same : (u : ℕ) → u < n → unmarked marks u ≡ left n r u) where
+module _ (r : Edges) (n : ℕ) (marks : List ℕ) (same : Marked r n marks) where
   -- every node has a mark: all are placed
   pub none_left : None ≡ first_below n (unmarked marks) → is_stuck r n ≡ false
   none_left e =

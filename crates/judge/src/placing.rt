@@ -28,12 +28,11 @@ fn in_degrees<G: Digraph>(g: &G) -> [usize; 64]
     degrees
 }
 
-// The smallest of n nodes without a mark and with in-degree 0.
-fn next_node(degrees: &[usize; 64], marks: &[u8], n: u32) -> Option<u32>
-    requires { n ≤ 64 }
-    ensures { result ≡ first_below n (λ w. unmarked marks.now w && slice_index degrees.now w == 0) }
+// The smallest node without a mark and with in-degree 0.
+fn next_node<G: Digraph>(g: &G, degrees: &[usize; 64], marks: &[u8]) -> Option<u32>
+    ensures { result ≡ first_below (G.Digraph.size g.now) (λ w. unmarked marks.now w && slice_index degrees.now w == 0) }
 {
-    (0..n).find(|w| is_unmarked(marks, *w) && degrees[*w as usize] == 0)
+    (0..g.nodes()).find(|w| is_unmarked(marks, *w) && degrees[*w as usize] == 0)
 }
 
 // Takes the edges from v off the in-degrees.
@@ -57,15 +56,15 @@ pub(crate) fn place_nodes<'o, G: Digraph>(
     requires { (G.Digraph.size g.now ≤ length marks.old) × ((u : ℕ) → u < G.Digraph.size g.now → slice_index marks.old u ≡ 0) }
     ensures { Placed (G.Digraph.edges g.now) (G.Digraph.size g.now) marks.new result.now }
 {
-    let n = g.nodes();
+    let n = g.nodes() as usize;
     let mut degrees = in_degrees(g);
-    for count in 0..n as usize {
-        let Some(w) = next_node(&degrees, marks, n) else {
+    for count in 0..n {
+        let Some(w) = next_node(g, &degrees, marks) else {
             return &order[..count];
         };
         order[count] = w;
         marks[w as usize] = 1;
         release(g, w, &mut degrees);
     }
-    &order[..n as usize]
+    &order[..n]
 }

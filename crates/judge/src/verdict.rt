@@ -1,11 +1,11 @@
 // The verdict on measured valves. The caller lends the lists for the answer and the marks that the
 // judge works with; it allocates nothing, and its work grows with the square of the nodes.
-ghost use Rattle.std.specs.Prelude.{◌≡◌, ◌≤◌, length, MatchBool, replicate};
+ghost use Rattle.std.specs.Prelude.{◌≡◌, ℕ, ◌<◌, ◌≤◌, length, MatchBool, replicate, slice_index};
 ghost use Rattle.bounded.specs.Lists.{Replaced, entries, room};
 ghost use Rattle.judge.specs.Marks.{Cleared};
 ghost use Rattle.judge.specs.Rightness.{RightAnswer};
 ghost use Rattle.judge.specs.Values.{first_unknown, opens};
-ghost use Rattle.judge.specs.Verdict.{Enough, Listed, answered, clears, found, ring_pipes, verdict_answer};
+ghost use Rattle.judge.specs.Verdict.{Enough, Listed, after, answered, clears, found, ring_pipes, verdict_answer};
 ghost use Rattle.judge.specs.declared.refusal.VerdictRefusal.TheVariants.{UnknownValve};
 ghost use Rattle.sheet.specs.View.{view};
 ghost use Rattle.std.specs.Option.{option_map};
@@ -28,15 +28,16 @@ pub enum Verdict {
 
 // Lists the pipes of a ring: from each node to the next, and from the last to the first.
 fn list_pipes(sheet: &Sheet, ring: &[u32], pipes: &mut Bounded<'_, Pipe>)
-    requires { length ring.now ≤ length (room pipes.old) }
+    requires few { length ring.now ≤ length (room pipes.old) }
+    requires drawn { (k : ℕ) → k < length ring.now → 0 < (view sheet.now).pipe (slice_index ring.now k) (after ring.now k) }
     ensures { Replaced (ring_pipes (view sheet.now).pipe ring.now) pipes.old pipes.new }
 {
     pipes.clear();
     for k in 0..ring.len() {
         let from = ring[k];
         let to = ring.get(k + 1).copied().unwrap_or(ring[0]);
-        let valve = sheet.valve(from, to).unwrap_or(0);
-        let _ = pipes.push(Pipe { from, to, valve });
+        let valve = sheet.valve(from, to).unwrap();
+        pipes.push(Pipe { from, to, valve }).unwrap();
     }
 }
 
@@ -67,12 +68,12 @@ fn judge_marked(
     let mut path = [0; 65];
     match find_ring(&flow, guard.bytes, &mut path) {
         Some(ring) => {
-            let _ = nodes.replace(ring);
+            nodes.replace(ring).unwrap();
             list_pipes(sheet, ring, pipes);
             Ok(Verdict::Ring)
         }
         None => {
-            let _ = nodes.replace(order);
+            nodes.replace(order).unwrap();
             pipes.clear();
             Ok(Verdict::Order)
         }

@@ -4,18 +4,18 @@
 ghost use Rattle.std.specs.Prelude.{◌≡◌, ℕ, ◌<◌, ◌≤◌, ◌&&◌, true, false, length, MatchOption, ◌==◌, slice_index};
 ghost use Rattle.judge.specs.First.{first_below};
 ghost use Rattle.judge.specs.Marks.{unmarked};
-ghost use Rattle.judge.specs.Placing.{order, outside};
+ghost use Rattle.judge.specs.Placed.{Marked};
 ghost use Rattle.judge.specs.Verdict.{is_stuck};
 ghost use Rattle.judge.specs.Walking.{ring, way_back};
 
 use crate::digraph::Digraph;
 use crate::marks::is_unmarked;
 
-// The smallest of n nodes without a mark.
-fn first_unmarked(marks: &[u8], n: u32) -> Option<u32>
-    ensures { result ≡ first_below n (unmarked marks.now) }
+// The smallest node without a mark.
+fn first_unmarked<G: Digraph>(g: &G, marks: &[u8]) -> Option<u32>
+    ensures { result ≡ first_below (G.Digraph.size g.now) (unmarked marks.now) }
 {
-    (0..n).find(|u| is_unmarked(marks, *u))
+    (0..g.nodes()).find(|u| is_unmarked(marks, *u))
 }
 
 // The smallest node without a mark and with an edge to w.
@@ -42,12 +42,11 @@ fn lowest_place(nodes: &[u32]) -> Option<usize>
 // Walks back from the smallest node without a mark until a node repeats: the part of the path that
 // leads round. There is none where every node is marked.
 fn walk<'p, G: Digraph>(g: &G, marks: &[u8], path: &'p mut [u32; 65]) -> Option<&'p mut [u32]>
-    requires { (u : ℕ) → u < G.Digraph.size g.now → unmarked marks.now u ≡ outside (order (G.Digraph.edges g.now) (G.Digraph.size g.now)) u }
+    requires { Marked (G.Digraph.edges g.now) (G.Digraph.size g.now) marks.now }
     ensures { MatchOption result (is_stuck (G.Digraph.edges g.now) (G.Digraph.size g.now) ≡ false) (λ part. (is_stuck (G.Digraph.edges g.now) (G.Digraph.size g.now) ≡ true) × (part.now ≡ way_back (G.Digraph.edges g.now) (G.Digraph.size g.now))) }
 {
-    let n = g.nodes();
-    path[64] = first_unmarked(marks, n)?;
-    for step in 0..n as usize {
+    path[64] = first_unmarked(g, marks)?;
+    for step in 0..g.nodes() as usize {
         let head = 64 - step;
         let u = source_of(g, marks, path[head])?;
         if let Some(at) = place_of(&path[head..], u) {
@@ -65,7 +64,7 @@ pub(crate) fn find_ring<'p, G: Digraph>(
     marks: &[u8],
     path: &'p mut [u32; 65],
 ) -> Option<&'p [u32]>
-    requires { (u : ℕ) → u < G.Digraph.size g.now → unmarked marks.now u ≡ outside (order (G.Digraph.edges g.now) (G.Digraph.size g.now)) u }
+    requires { Marked (G.Digraph.edges g.now) (G.Digraph.size g.now) marks.now }
     ensures { MatchOption result (is_stuck (G.Digraph.edges g.now) (G.Digraph.size g.now) ≡ false) (λ nodes. (is_stuck (G.Digraph.edges g.now) (G.Digraph.size g.now) ≡ true) × (nodes.now ≡ ring (G.Digraph.edges g.now) (G.Digraph.size g.now))) }
 {
     let part = walk(g, marks, path)?;

@@ -1,23 +1,42 @@
-use Rattle.std.proofs.Common.{arith}
+use Rattle.std.proofs.Common.{◌∙◌, arith}
 use Rattle.sheet.specs.View.{view}
-use Rattle.judge.proofs.Found.{few_in_order, few_in_ring, lists_order, lists_ring}
+use Rattle.std.proofs.lemmas.Bool.{le-leb}
+use Rattle.judge.proofs.Found.{few_in_order, few_in_ring, lists_order, lists_ring, ring_drawn}
 use Rattle.judge.proofs.Replaced.{replace_replaced}
 use Rattle.judge.proofs.verdict.judge_marked.Goals as goal
 
+pub unwrap-requires : goal.unwrap-requires
+unwrap-requires c =
+    let few = few_in_ring (view c.args.sheet.now) c.args.values.now _ c.in-Some-find_ring.ensures.1 in
+    c.replace.ensures.test ∙ le-leb _ _ (omega (arith, few, c.requires.enough.nodes))
+
+pub unwrap-requires-in-None : goal.unwrap-requires-in-None
+unwrap-requires-in-None c =
+    let few = few_in_order (view c.args.sheet.now) c.args.values.now _ c.place_nodes-order.ensures.listed in
+    c.replace-in-None.ensures.test ∙ le-leb _ _ (omega (arith, few, c.requires.enough.nodes))
+
 pub list_pipes-requires : goal.list_pipes-requires
 list_pipes-requires c =
-    omega (arith, c.requires.enough.pipes, few_in_ring (view c.args.sheet.now) c.args.values.now _ c.in-Some-find_ring.ensures.1)
+    let ring = c.in-Some-find_ring.ensures in
+    record {
+      few = omega (arith, c.requires.enough.pipes, few_in_ring (view c.args.sheet.now) c.args.values.now _ ring.1);
+      drawn = ring_drawn (view c.args.sheet.now) c.args.values.now _ c.args.sheet.now.pipes_join ring.0 ring.1;
+    }
 
 pub returns-in-Some-find_ring-clause-lists : goal.returns-in-Some-find_ring-clause-lists
 returns-in-Some-find_ring-clause-lists c =
-    let few = few_in_ring (view c.args.sheet.now) c.args.values.now _ c.in-Some-find_ring.ensures.1 in
-    lists_ring (view c.args.sheet.now) c.args.values.now _ _ _ _ _ c.in-Some-find_ring.ensures.0 c.in-Some-find_ring.ensures.1
-    (replace_replaced _ _ _ _ (omega (arith, few, c.requires.enough.nodes)) c.replace.ensures.test c.replace.ensures.entries c.replace.ensures.room c.replace.ensures.lent)
+    let ring = c.in-Some-find_ring.ensures in
+    let few = few_in_ring (view c.args.sheet.now) c.args.values.now _ ring.1 in
+    lists_ring (view c.args.sheet.now) c.args.values.now _ _ _ _ _ ring.0 ring.1
+    (replace_replaced _ _ _ _ (omega (arith, few, c.requires.enough.nodes)) c.replace.ensures.test c.replace.ensures.entries
+    c.replace.ensures.room c.replace.ensures.lent)
     c.list_pipes.ensures
 
 pub returns-clause-lists : goal.returns-clause-lists
 returns-clause-lists c =
-    let few = few_in_order (view c.args.sheet.now) c.args.values.now _ c.place_nodes-order.ensures.listed in
-    lists_order (view c.args.sheet.now) c.args.values.now _ _ _ _ _ c.in-None.ensures c.place_nodes-order.ensures.listed
-    (replace_replaced _ _ _ _ (omega (arith, few, c.requires.enough.nodes)) c.replace-in-None.ensures.test c.replace-in-None.ensures.entries c.replace-in-None.ensures.room c.replace-in-None.ensures.lent)
+    let order = c.place_nodes-order.ensures.listed in
+    let few = few_in_order (view c.args.sheet.now) c.args.values.now _ order in
+    lists_order (view c.args.sheet.now) c.args.values.now _ _ _ _ _ c.in-None.ensures order
+    (replace_replaced _ _ _ _ (omega (arith, few, c.requires.enough.nodes)) c.replace-in-None.ensures.test
+    c.replace-in-None.ensures.entries c.replace-in-None.ensures.room c.replace-in-None.ensures.lent)
     c.clear.ensures.entries c.clear.ensures.lent

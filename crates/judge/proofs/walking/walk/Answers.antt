@@ -19,14 +19,14 @@ returns-in_err-u g c = absurd (some_source _ _ _ c.requires _ _ c.loop-step.inva
 pub returns-in-Some : goal.returns-in-Some
 returns-in-Some g c =
     let e : 64 - c.loop-step.step + c.in-Some.at + 1 - (64 - c.loop-step.step) ≡ c.in-Some.at + 1 = omega arith in
-    let found = walk_found _ _ _ c.requires _ _ c.loop-step.invariant (omega (arith, c.loop-step-test.true, c.nodes-n.ensures.number)) (omega (arith, c.nodes-n.ensures.few, c.nodes-n.ensures.number)) c.in_ok-u.u (search rules) c.in-Some.at
+    let found = walk_found _ _ _ c.requires _ _ c.loop-step.invariant (omega (arith, c.loop-step-test.true, c.nodes-step-end.ensures.number)) (omega (arith, c.nodes-step-end.ensures.few, c.nodes-step-end.ensures.number)) c.in_ok-u.u (search rules) c.in-Some.at
     (c.in-Some.ensures ∙ ap (λ t. first_below (length t) (λ k. eqb (get_or t k 0) c.in_ok-u.u)) (between_to_end c.loop-step.path _ 65 (omega (arith, c.loop-step.invariant.long)))) in
     (found.0, ap (λ m. take m (drop (64 - c.loop-step.step) c.loop-step.path)) e ∙ found.1)
 
 pub loop-step-preserved : goal.loop-step-preserved
 loop-step-preserved g c =
-    walking_more _ _ _ c.requires _ _ c.loop-step.invariant (omega (arith, c.loop-step-test.true, c.nodes-n.ensures.number)) (omega (arith, c.nodes-n.ensures.few, c.nodes-n.ensures.number)) c.in_ok-u.u (search rules)
+    walking_more _ _ _ c.requires _ _ c.loop-step.invariant (omega (arith, c.loop-step-test.true, c.nodes-step-end.ensures.number)) (omega (arith, c.nodes-step-end.ensures.few, c.nodes-step-end.ensures.number)) c.in_ok-u.u (search rules)
     (c.in_default.ensures ∙ ap (λ t. first_below (length t) (λ k. eqb (get_or t k 0) c.in_ok-u.u)) (between_to_end c.loop-step.path _ 65 (omega (arith, c.loop-step.invariant.long))))
 
 pub returns : goal.returns
-returns g c = absurd (walk_ends _ _ _ c.requires _ _ c.loop-step.invariant (omega (arith, c.nodes-n.ensures.number)) (omega (arith, c.nodes-n.ensures.few)))
+returns g c = absurd (walk_ends _ _ _ c.requires _ _ c.loop-step.invariant (omega (arith, c.nodes-step-end.ensures.number)) (omega (arith, c.nodes-step-end.ensures.few)))
