@@ -14,7 +14,7 @@ use Rattle.judge.proofs.OrderLaw.{order_count, order_none_next}
 use Rattle.judge.proofs.TurnedLists.{Linked, lowest_is, turned_length, turned_ring}
 
 -- distinct nodes, with an edge from each to the next and from the last to the first
-pub record Loop (r : Edges) (ns : List ℕ) : Type 0 where
+record Loop (r : Edges) (ns : List ℕ) : Type 0 where
   pub some : 0 < length ns
   pub distinct : Distinct ns
   pub linked : Linked r ns
@@ -117,7 +117,7 @@ module _ (n : ℕ) (r : Edges) where
   pub left_some : length (order r n) < n → (least n left < n) × (left (least n left) ≡ true)
   left_some l = let c = order_count n r in let s = count_some n left (omega arith) in (s, least_passes n left s)
 
-  pub way_is_loop : length (order r n) < n → Loop r (way_back r n)
+  way_is_loop : length (order r n) < n → Loop r (way_back r n)
   way_is_loop l =
       let s = left_some l in
       walk_loop n r left (order_none_next n r l) n (least n left ∷ []) (start_trail n r left (least n left) s.0 s.1) (omega arith)
@@ -125,7 +125,7 @@ module _ (n : ℕ) (r : Edges) where
   pub ring_right : length (order r n) < n → IsRing r (ring r n)
   ring_right l = let o = way_is_loop l in turned_ring (way_back r n) r o.some o.distinct o.linked
 
-  -- as many nodes as there are left at most
+  -- a ring has at most n nodes
   pub ring_few : length (ring r n) ≤ n
   ring_few =
       let m = turned_length (way_back r n) in let w = walk_few n r left n (least n left ∷ []) in omega arith

@@ -1,6 +1,6 @@
 -- One turn of the loop that places nodes.
 use Rattle.std.proofs.Common.{◌≡◌, ℕ, suc, ◌+◌, ◌-◌, ◌<◌, ◌≤◌, true, false, cond, ◌&&◌, eqb, List, [], ◌∷◌, ◌++◌, length, get_or, take, set, Some, None, sym, refl, ap, ◌∙◌, subst, inl, inr, arith}
-use Rattle.graph.specs.Counts.{count, least}
+use Rattle.graph.specs.Counts.{least}
 use Rattle.graph.specs.Walks.{Edges}
 use Rattle.graph.proofs.Counts.{count_less, count_same, has_push, least_passes, least_same}
 use Rattle.std.proofs.lemmas.List.{get_or-set_other, get_or-set_same, length-set, take_more_set}
@@ -85,19 +85,6 @@ pub record Placing (r : Edges) (n : ℕ) (marks out degrees : List ℕ) (k : ℕ
   pub rest : order_from r n (n - k) (take k out) ≡ order r n
   pub matches : Matches n marks (take k out)
   pub degrees_are : Degrees r n (take k out) degrees
-
-pub placing_none
-    : (r : Edges) (n : ℕ) (marks out degrees : List ℕ) → length out ≡ 64 → length degrees ≡ 64
-    → ((u : ℕ) → u < n → get_or marks u 0 ≡ 0) → ((w : ℕ) → w < n → get_or degrees w 0 ≡ count n (λ u. r u w))
-    → Placing r n marks out degrees 0
-placing_none r n marks out degrees l e z d =
-    record {
-      long = l;
-      degrees_long = e;
-      rest = let k : n - 0 ≡ n = omega arith in rw k refl;
-      matches = λ u h. ap (λ x. eqb x 0) (z u h);
-      degrees_are = d;
-    }
 
 -- the nodes listed are all that can be placed
 placed_all

@@ -33,16 +33,15 @@ fn list_pipes(sheet: &Sheet, ring: &[u32], pipes: &mut Bounded<'_, Pipe>)
     ensures { Replaced (ring_pipes (view sheet.now).pipe ring.now) pipes.old pipes.new }
 {
     pipes.clear();
-    for k in 0..ring.len() {
-        let from = ring[k];
+    for (k, &from) in ring.iter().enumerate() {
         let to = ring.get(k + 1).copied().unwrap_or(ring[0]);
         let valve = sheet.valve(from, to).unwrap();
         pipes.push(Pipe { from, to, valve }).unwrap();
     }
 }
 
-// The verdict where there are values and places enough, and marks that may hold anything: they are
-// zero while the judge begins, and again after it.
+// The verdict where there are values and places enough. The marks are cleared before nodes are
+// placed, and again however it ends.
 fn judge_marked(
     sheet: &Sheet,
     values: &[u8],
