@@ -21,5 +21,5 @@ impl Drop for Marks<'_> {
 pub(crate) fn is_unmarked(marks: &[u8], u: u32) -> bool
     ensures { result ≡ unmarked marks.now u }
 {
-    marks.get(u as usize).copied().unwrap_or(0) == 0
+    marks.get(u as usize).is_none_or(|mark| *mark == 0)
 }
