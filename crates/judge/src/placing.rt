@@ -17,7 +17,8 @@ fn in_degree<G: Digraph>(g: &G, w: u32) -> usize
     (0..g.nodes()).filter(|u| g.leads(*u, w)).count()
 }
 
-// The in-degrees of the nodes, before any is placed.
+// The in-degrees of the nodes, before any is placed. (Not by `array::from_fn`: it would count at all
+// 64 places, so that the work would no longer grow with the square of the nodes.)
 fn in_degrees<G: Digraph>(g: &G) -> [usize; 64]
     ensures { (w : ℕ) → w < G.Digraph.size g.now → slice_index result w ≡ count (G.Digraph.size g.now) (λ u. G.Digraph.edges g.now u w) }
 {
