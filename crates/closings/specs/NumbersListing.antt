@@ -15,9 +15,9 @@ use Rattle.closings.specs.NumbersClauses.{all_rise, bit_rises, low_enters, low_l
 use Rattle.closings.specs.NumbersClauses.{bits_for, numbers_clauses, numbers_of_arc}
 use Rattle.closings.specs.NumbersPlaces.{NumbersIn, numbers_at}
 use Rattle.closings.specs.Ranges.{each}
-use Rattle.closings.specs.declared.numbers.NumbersPlace.{NumbersPlace}
-use Rattle.closings.specs.declared.numbers.NumbersPlace.TheVariants.{AllRise, BitRises, LowEnters, LowLeaves}
-use Rattle.closings.specs.declared.numbers.NumbersPlace.TheVariants.{Past, RestEnters, RestLeaves}
+use Rattle.closings.specs.declared.numbers.Place.{Place}
+use Rattle.closings.specs.declared.numbers.Place.TheVariants.{AllRise, BitRises, LowEnters, LowLeaves}
+use Rattle.closings.specs.declared.numbers.Place.TheVariants.{RestEnters, RestLeaves}
 use Rattle.closings.specs.RangesLemmas.{length_each, nth_each, nth_left, nth_right}
 use Rattle.closings.specs.Widths.{bits_some}
 
@@ -99,13 +99,13 @@ module _ (x : Input) where
             ]
 
 -- p is the place of clause k
-pub record Found (x : Input) (k : ℕ) (p : NumbersPlace) : Type 0 where
-  pub is : nth (numbers_clauses x) k ≡ numbers_at x p
+pub record Found (x : Input) (k : ℕ) (p : Place) : Type 0 where
+  pub is : nth (numbers_clauses x) k ≡ Some (numbers_at x p)
   pub within : NumbersIn x p
 
 module _ (x : Input) (law : Lawful x) (k q : ℕ) (e : q ≡ bits_for x.nodes - 1) where
-  pub found_past : arc_count x ≤ k / (q * 3 + 3) → Found x k Past
-  found_past h = record { is = clause_past x k (q * 3 + 3) (omega arith) h; within = tt }
+  pub none_past : arc_count x ≤ k / (q * 3 + 3) → nth (numbers_clauses x) k ≡ None
+  none_past h = clause_past x k (q * 3 + 3) (omega arith) h
 
   module _ (h : k / (q * 3 + 3) < arc_count x) where
     here : nth (numbers_clauses x) k ≡ nth (numbers_of_arc x (k / (q * 3 + 3))) (k % (q * 3 + 3))

@@ -1,22 +1,21 @@
 -- Which clause of the numbers a place says, and which places there are. Assumes nothing.
---     numbers_at x p    the clause at place p, or none past the last
+--     numbers_at x p    the clause at place p
 --     NumbersIn x p     the place has an arc, and its bit is one from 2 on
-use Rattle.std.specs.Prelude.{ℕ, ◌<◌, ◌≤◌, Some, None, Option}
+use Rattle.std.specs.Prelude.{ℕ, ◌<◌, ◌≤◌}
 use Rattle.cnf.specs.Clauses.{Clause}
 use Rattle.closings.specs.Inputs.{Input, arc_count}
 use Rattle.closings.specs.NumbersClauses.{all_rise, bit_rises, bits_for, low_enters, low_leaves, rest_enters, rest_leaves}
-use Rattle.closings.specs.declared.numbers.NumbersPlace.{NumbersPlace}
-use Rattle.closings.specs.declared.numbers.NumbersPlace.TheVariants.{AllRise, BitRises, LowEnters, LowLeaves}
-use Rattle.closings.specs.declared.numbers.NumbersPlace.TheVariants.{Past, RestEnters, RestLeaves}
+use Rattle.closings.specs.declared.numbers.Place.{Place}
+use Rattle.closings.specs.declared.numbers.Place.TheVariants.{AllRise, BitRises, LowEnters, LowLeaves}
+use Rattle.closings.specs.declared.numbers.Place.TheVariants.{RestEnters, RestLeaves}
 
-abbrev pub numbers_at : Input → NumbersPlace → Option Clause
-numbers_at x (LowLeaves a) = Some (low_leaves x a)
-numbers_at x (LowEnters a) = Some (low_enters x a)
-numbers_at x (BitRises a k) = Some (bit_rises x a k)
-numbers_at x (RestLeaves a k) = Some (rest_leaves x a k)
-numbers_at x (RestEnters a k) = Some (rest_enters x a k)
-numbers_at x (AllRise a) = Some (all_rise x a)
-numbers_at x Past = None
+abbrev pub numbers_at : Input → Place → Clause
+numbers_at x (LowLeaves a) = low_leaves x a
+numbers_at x (LowEnters a) = low_enters x a
+numbers_at x (BitRises a k) = bit_rises x a k
+numbers_at x (RestLeaves a k) = rest_leaves x a k
+numbers_at x (RestEnters a k) = rest_enters x a k
+numbers_at x (AllRise a) = all_rise x a
 
 -- an arc, where there is a bit
 abbrev InArc : Input → ℕ → Type 0
@@ -26,11 +25,10 @@ InArc x a = (a < arc_count x) × (1 ≤ bits_for x.nodes)
 abbrev InBit : Input → ℕ → ℕ → Type 0
 InBit x a k = (a < arc_count x) × (2 ≤ k) × (k ≤ bits_for x.nodes)
 
-abbrev pub NumbersIn : Input → NumbersPlace → Type 0
+abbrev pub NumbersIn : Input → Place → Type 0
 NumbersIn x (LowLeaves a) = InArc x a
 NumbersIn x (LowEnters a) = InArc x a
 NumbersIn x (BitRises a k) = InBit x a k
 NumbersIn x (RestLeaves a k) = InBit x a k
 NumbersIn x (RestEnters a k) = InBit x a k
 NumbersIn x (AllRise a) = InArc x a
-NumbersIn x Past = Unit {0}

@@ -1,7 +1,7 @@
 -- The clauses of the steps by their numbers, and the place that is found for each.
 use Rattle.std.specs.Prelude.{◌≡◌, ℕ, zero, suc, ◌+◌, ◌-◌, ◌*◌, ◌/◌, ◌%◌, ◌<◌, ◌≤◌, List, [], ◌∷◌, ◌++◌, length, pos, Some, None, ◌≢◌}
 use Rattle.std.proofs.Math.Logic.{⊎_elim}
-use Rattle.std.proofs.Common.{◌∙◌, sym, mul-zero}
+use Rattle.std.proofs.Common.{◌∙◌, mul-zero}
 use Rattle.std.proofs.Math.Path.{ap, refl}
 use native.Mathlib.Omega.{arith}
 use Rattle.bounded.proofs.Entries.{nth_past}
@@ -10,16 +10,13 @@ use Rattle.cnf.specs.Clauses.{Clause}
 use Rattle.std.proofs.lemmas.Nat.{div_below, le-div, mod_below}
 use Rattle.std.proofs.lemmas.List.{length-append}
 use Rattle.std.proofs.lemmas.Bool.{cases_lt}
-use Rattle.closings.specs.Arcs.{arc_in}
-use Rattle.closings.specs.Inputs.{Input, arc_at, arc_count, input}
+use Rattle.closings.specs.Inputs.{Input, arc_count}
 use Rattle.closings.specs.Ranges.{each, upto}
 use Rattle.closings.specs.StepsClauses.{label_rises, some_step, step_enters, step_leaves}
 use Rattle.closings.specs.StepsClauses.{steps_clauses, steps_of_arc, steps_s}
 use Rattle.closings.specs.StepsPlaces.{StepsIn, steps_at}
-use Rattle.closings.specs.declared.remaining.Remaining.{Remaining}
 use Rattle.closings.specs.declared.steps.Place.{Place}
-use Rattle.closings.specs.declared.steps.Place.TheVariants.{Enters, Leaves, Past, Rises, SomeStep}
-use Rattle.closings.specs.ArcFacts.{arc_is, count_is}
+use Rattle.closings.specs.declared.steps.Place.TheVariants.{Enters, Leaves, Rises, SomeStep}
 use Rattle.closings.specs.RangesLemmas.{length_each, length_upto, nth_each, nth_left, nth_right, nth_upto}
 
 factor_positive : (a b k : ℕ) → k < a * b → 0 < b
@@ -154,7 +151,7 @@ module _ (x : Input) where
 
 -- p is the place of clause k
 pub record Found (x : Input) (k : ℕ) (p : Place) : Type 0 where
-  pub is : nth (steps_clauses x) k ≡ steps_at x p
+  pub is : nth (steps_clauses x) k ≡ Some (steps_at x p)
   pub within : StepsIn x p
 
 -- as it is reckoned, with q for r − 1 and w for r − 2
@@ -179,10 +176,9 @@ module _ (x : Input) (k q w : ℕ) (eq : q ≡ x.nodes - 1) (ew : w ≡ x.nodes 
     wide : q * 2 + 1 ≡ (x.nodes - 1) * 2 + 1
     wide = omega arith
 
-    pub found_past : arc_count x ≤ (k - x.nodes * w) / (q * 2 + 1) → Found x k Past
+    pub none_past : arc_count x ≤ (k - x.nodes * w) / (q * 2 + 1) → nth (steps_clauses x) k ≡ None
     unfolding n
-    found_past h =
-        record { is = rw back at (past_arcs x n (q * 2 + 1) wide h); within = tt }
+    none_past h = rw back at (past_arcs x n (q * 2 + 1) wide h)
 
     module _ (h : (k - x.nodes * w) / (q * 2 + 1) < arc_count x) where
       a : ℕ
@@ -217,7 +213,3 @@ module _ (x : Input) (k q w : ℕ) (eq : q ≡ x.nodes - 1) (ew : w ≡ x.nodes 
       unfolding a c
       found_enters l e =
           record { is = at_arc ∙ enters_at x a c (omega arith) (omega arith); within = (h, omega arith, omega arith) }
-
--- an arc that is read from memory
-pub arc_read : (x : Remaining) (a : ℕ) → a < arc_count (input x) → arc_in x.arcs a ≡ arc_at (input x) a
-arc_read x a h = sym (arc_is x a (omega (arith, count_is x)))

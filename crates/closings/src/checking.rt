@@ -19,69 +19,45 @@ fn joins(nodes: u32, arc: Arc) -> bool
 fn ends_fit(nodes: u32, arcs: &[Arc]) -> bool
     ensures { Decides result (Ends nodes arcs.now (length arcs.now)) }
 {
-    for a in 0..arcs.len() {
-        if !joins(nodes, arcs[a]) {
-            return false;
-        }
-    }
-    true
+    arcs.iter().all(|arc| joins(nodes, *arc))
 }
 
 // Whether every arc stands on a variable below the first free one.
 fn variables_fit(arcs: &[Arc], first: u32) -> bool
     ensures { Decides result (Variables first arcs.now (length arcs.now)) }
 {
-    for a in 0..arcs.len() {
-        let variable = arcs[a].variable;
-        if variable == 0 || first <= variable {
-            return false;
-        }
-    }
-    true
+    arcs.iter()
+        .all(|arc| 1 <= arc.variable && arc.variable < first)
 }
 
 // The place of an arc among all ordered pairs of nodes.
 fn pair(arc: Arc, nodes: u32) -> u64
     ensures { result ≡ arc.from * nodes + arc.to }
 {
-    arc.from as u64 * nodes as u64 + arc.to as u64
+    u64::from(arc.from) * u64::from(nodes) + u64::from(arc.to)
 }
 
 // Whether the arcs ascend by their pairs.
 fn pairs_ascend(nodes: u32, arcs: &[Arc]) -> bool
     ensures { Decides result (Ascending nodes arcs.now (length arcs.now)) }
 {
-    for a in 1..arcs.len() {
-        if pair(arcs[a], nodes) <= pair(arcs[a - 1], nodes) {
-            return false;
-        }
-    }
-    true
+    arcs.is_sorted_by(|a, b| pair(*a, nodes) < pair(*b, nodes))
 }
 
-// Whether none of the first n arcs stands on a variable.
-fn is_new(arcs: &[Arc], n: usize, variable: u32) -> bool
-    requires { n ≤ length arcs.now }
-    ensures { Decides result ((a : ℕ) → a < n → (arc_in arcs.now a).variable ≢ variable) }
+// Whether none of the arcs stands on a variable.
+fn is_new(arcs: &[Arc], variable: u32) -> bool
+    ensures { Decides result ((a : ℕ) → a < length arcs.now → (arc_in arcs.now a).variable ≢ variable) }
 {
-    for a in 0..n {
-        if arcs[a].variable == variable {
-            return false;
-        }
-    }
-    true
+    arcs.iter().all(|arc| arc.variable != variable)
 }
 
 // Whether no two arcs stand on the same variable.
 fn variables_differ(arcs: &[Arc]) -> bool
     ensures { Decides result (Apart arcs.now (length arcs.now)) }
 {
-    for a in 0..arcs.len() {
-        if !is_new(arcs, a, arcs[a].variable) {
-            return false;
-        }
-    }
-    true
+    arcs.iter()
+        .enumerate()
+        .all(|(a, arc)| is_new(&arcs[..a], arc.variable))
 }
 
 // Whether a closing may rely on the arcs.
@@ -102,11 +78,7 @@ fn placed(arcs: &[Arc]) -> [Arc; 4096]
     requires { length arcs.now ≤ 4096 }
     ensures { take (length arcs.now) result ≡ arcs.now }
 {
-    let mut places = [Arc {
-        from: 0,
-        to: 0,
-        variable: 0,
-    }; 4096];
+    let mut places = [Arc::default(); 4096];
     places[..arcs.len()].copy_from_slice(arcs);
     places
 }

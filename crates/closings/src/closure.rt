@@ -1,16 +1,16 @@
 // The closing by a transitive closure. An added variable y(i,j), one for each pair of nodes, says that i
 // comes before j: no node comes before itself, the relation is transitive, and a chosen arc's start
 // comes before its end.
-ghost use Rattle.std.specs.Prelude.{◌≡◌, ◌<◌};
+ghost use Rattle.std.specs.Prelude.{◌≡◌, ◌<◌, length};
 ghost use Rattle.bounded.specs.Lists.{nth};
 ghost use Rattle.closings.specs.ClosureClauses.{closure_adds, closure_clauses, closure_y};
 ghost use Rattle.closings.specs.ClosurePlaces.{closure_at, ClosureIn};
-ghost use Rattle.closings.specs.Inputs.{input};
+ghost use Rattle.closings.specs.Inputs.{Input, input};
 ghost use Rattle.closings.specs.ClosureLaw.{closure_closes, closure_uses, closure_small};
+ghost use Rattle.std.specs.Option.{IfSome, option_map};
 
 use crate::closing::Closing;
-use crate::grid::arc_count;
-use crate::literals::{negative, of_one, of_three, of_two, positive};
+use crate::literals::{Variable, literal_at};
 use crate::remaining::Remaining;
 
 #[derive(Clone, Copy)]
@@ -22,40 +22,73 @@ enum Place {
     NeverItself(u32),
     Transitive(u32, u32, u32),
     ArcBefore(u32),
-    Past,
 }
 
-// The place of clause k.
-fn find(x: &Remaining, k: u32) -> Place
-    ensures is { nth (closure_clauses (input x.now)) k ≡ closure_at (input x.now) result }
-    ensures within { ClosureIn (input x.now) result }
+// The place of clause k, or none past the last.
+fn find(x: &Remaining, k: u32) -> Option<Place>
+    ensures is { nth (closure_clauses (input x.now)) k ≡ option_map (closure_at (input x.now)) result }
+    ensures within { IfSome result (ClosureIn (input x.now)) }
 {
     let nodes = x.nodes;
     if k < nodes {
-        return Place::NeverItself(k);
+        return Some(Place::NeverItself(k));
     }
     let second = k - nodes;
     let square = nodes * nodes;
     let cube = nodes * square;
     if second < cube {
         let row = second % square;
-        return Place::Transitive(second / square, row / nodes, row % nodes);
+        return Some(Place::Transitive(second / square, row / nodes, row % nodes));
     }
     let third = second - cube;
-    if third < arc_count(x) {
-        return Place::ArcBefore(third);
+    if third < x.arc_count() {
+        return Some(Place::ArcBefore(third));
     }
-    Place::Past
+    None
 }
 
 // The variable y(i,j), which says that i comes before j.
-fn before(x: &Remaining, i: u32, j: u32) -> u32
+fn before(x: &Remaining, i: u32, j: u32) -> Variable
     requires start { i < x.now.nodes }
     requires end { j < x.now.nodes }
-    ensures is { result ≡ closure_y (input x.now) i j }
-    ensures low { result < 2147483648 }
+    ensures { result.number ≡ closure_y (input x.now) i j }
 {
-    x.first + i * x.nodes + j
+    Variable {
+        number: x.first + i * x.nodes + j,
+    }
+}
+
+impl Place {
+    // The length of the clause that stands here.
+    fn length(self) -> u32
+        ensures { (x : Input) → result ≡ length (closure_at x self) }
+    {
+        match self {
+            Place::NeverItself(_) => 1,
+            Place::Transitive(_, _, _) => 3,
+            Place::ArcBefore(_) => 2,
+        }
+    }
+
+    // Literal j of the clause that stands here.
+    fn literal(self, x: &Remaining, j: u32) -> Option<i32>
+        requires { ClosureIn (input x.now) self }
+        ensures { result ≡ nth (closure_at (input x.now) self) j }
+    {
+        match self {
+            Place::NeverItself(i) => literal_at([before(x, i, i).negative()], j),
+            Place::Transitive(i, m, t) => {
+                let first = before(x, i, m).negative();
+                let second = before(x, m, t).negative();
+                literal_at([first, second, before(x, i, t).positive()], j)
+            }
+            Place::ArcBefore(a) => {
+                let arc = x.arc_at(a);
+                let rises = before(x, arc.from, arc.to).positive();
+                literal_at([x.chosen(a).negative(), rises], j)
+            }
+        }
+    }
 }
 
 impl Closing for Closure {
@@ -74,38 +107,16 @@ impl Closing for Closure {
     }
 
     fn count(&self, x: &Remaining) -> u32 {
-        x.nodes + x.nodes * (x.nodes * x.nodes) + arc_count(x)
+        x.nodes + x.nodes * (x.nodes * x.nodes) + x.arc_count()
     }
 
     fn length(&self, x: &Remaining, k: u32) -> Option<u32> {
-        match find(x, k) {
-            Place::NeverItself(_) => Some(1),
-            Place::Transitive(_, _, _) => Some(3),
-            Place::ArcBefore(_) => Some(2),
-            Place::Past => None,
-        }
+        let place = find(x, k)?;
+        Some(place.length())
     }
 
+    #[tactic(auto, using(crate::specs::RangesLemmas::told, crate::specs::RangesLemmas::told_none))]
     fn literal(&self, x: &Remaining, k: u32, j: u32) -> Option<i32> {
-        match find(x, k) {
-            Place::NeverItself(i) => of_one(negative(before(x, i, i)), j),
-            Place::Transitive(i, m, t) => {
-                of_three(
-                    negative(before(x, i, m)),
-                    negative(before(x, m, t)),
-                    positive(before(x, i, t)),
-                    j,
-                )
-            }
-            Place::ArcBefore(a) => {
-                let arc = x.arcs[a as usize];
-                of_two(
-                    negative(arc.variable),
-                    positive(before(x, arc.from, arc.to)),
-                    j,
-                )
-            }
-            Place::Past => None,
-        }
+        find(x, k)?.literal(x, j)
     }
 }

@@ -1,38 +1,48 @@
-// Two blocks of added variables, in rows of q.
+// Two blocks of added variables of a graph, in rows of one width: a row for each node, then a row for
+// each arc.
 ghost use Rattle.std.specs.Prelude.{◌≡◌, ◌<◌, ◌≤◌};
-ghost use Rattle.closings.specs.Grids.{arc_variable, node_variable};
+ghost use Rattle.closings.specs.Grids.{arc_variable, grid_adds, node_variable};
 ghost use Rattle.closings.specs.Inputs.{arc_count, input};
 
+use crate::literals::Variable;
 use crate::remaining::Remaining;
 
-// How many arcs there are: never more than there are pairs of nodes.
-pub(crate) fn arc_count(x: &Remaining) -> u32
-    ensures is { result ≡ arc_count (input x.now) }
-    ensures few { result ≤ 4096 }
-{
-    x.count
+#[derive(Clone, Copy)]
+pub(crate) struct Grid<'x> {
+    pub(crate) x: &'x Remaining,
+    pub(crate) width: u32,
+    ghost narrow: { width < 64 },
 }
 
-// The variable of node i and k.
-pub(crate) fn node_variable(x: &Remaining, q: u32, i: u32, k: u32) -> u32
-    requires narrow { q < 64 }
-    requires row { i < x.now.nodes }
-    requires first { 1 ≤ k }
-    requires last { k ≤ q }
-    ensures is { result ≡ node_variable (input x.now) q i k }
-    ensures low { result < 2147483648 }
-{
-    x.first + i * q + k - 1
-}
+impl<'x> Grid<'x> {
+    // How many variables the two blocks have.
+    pub(crate) fn added(self) -> u32
+        ensures { result ≡ grid_adds (input self.entry.x.now) self.entry.width }
+    {
+        self.x.nodes * self.width + self.x.arc_count() * self.width
+    }
 
-// The variable of arc a and k.
-pub(crate) fn arc_variable(x: &Remaining, q: u32, a: u32, k: u32) -> u32
-    requires narrow { q < 64 }
-    requires row { a < arc_count (input x.now) }
-    requires first { 1 ≤ k }
-    requires last { k ≤ q }
-    ensures is { result ≡ arc_variable (input x.now) q a k }
-    ensures low { result < 2147483648 }
-{
-    x.first + x.nodes * q + a * q + k - 1
+    // The variable of node i and k.
+    pub(crate) fn node_variable(self, i: u32, k: u32) -> Variable
+        requires row { i < self.x.now.nodes }
+        requires first { 1 ≤ k }
+        requires last { k ≤ self.width }
+        ensures { result.number ≡ node_variable (input self.entry.x.now) self.entry.width i k }
+    {
+        Variable {
+            number: self.x.first + i * self.width + k - 1,
+        }
+    }
+
+    // The variable of arc a and k.
+    pub(crate) fn arc_variable(self, a: u32, k: u32) -> Variable
+        requires row { a < arc_count (input self.x.now) }
+        requires first { 1 ≤ k }
+        requires last { k ≤ self.width }
+        ensures { result.number ≡ arc_variable (input self.entry.x.now) self.entry.width a k }
+    {
+        Variable {
+            number: self.x.first + self.x.nodes * self.width + a * self.width + k - 1,
+        }
+    }
 }

@@ -10,5 +10,6 @@ mod grid;
 mod literals;
 pub mod named;
 pub mod numbers;
+mod reading;
 pub mod remaining;
 pub mod steps;

@@ -2,32 +2,31 @@
 // along every chosen arc the label has to rise, which it cannot do around a ring. There is one added
 // variable for each bit of each node's label, and one for each arc and bit, which says that along
 // that arc the label rises in that bit and those below it.
-ghost use Rattle.std.specs.Prelude.{◌≡◌, ◌<◌, ◌≤◌};
+ghost use Rattle.std.specs.Prelude.{◌≡◌, ◌≤◌, length};
 ghost use Rattle.bounded.specs.Lists.{nth};
-ghost use Rattle.closings.specs.Inputs.{arc_at, arc_count, input};
-ghost use Rattle.closings.specs.NumbersClauses.{bits_for, numbers_adds, numbers_clauses, numbers_t, numbers_y};
+ghost use Rattle.closings.specs.Inputs.{Input, input};
+ghost use Rattle.closings.specs.NumbersClauses.{bits_for, numbers_adds, numbers_clauses};
 ghost use Rattle.closings.specs.NumbersPlaces.{NumbersIn, numbers_at};
 ghost use Rattle.closings.specs.NumbersLaw.{numbers_closes, numbers_uses, numbers_small};
+ghost use Rattle.std.specs.Option.{IfSome, option_map};
 
-use crate::arc::Arc;
 use crate::closing::Closing;
-use crate::grid::{arc_count, arc_variable, node_variable};
-use crate::literals::{negative, of_three, of_two, positive};
+use crate::grid::Grid;
+use crate::literals::literal_at;
 use crate::remaining::Remaining;
 
 #[derive(Clone, Copy)]
 pub struct Numbers;
 
-// Which clause stands at a place: its arc, and its bit where it has one.
+// Which clause stands at a number: its arc, and its bit where it has one.
 #[derive(Clone, Copy)]
-enum NumbersPlace {
+enum Place {
     LowLeaves(u32),
     LowEnters(u32),
     BitRises(u32, u32),
     RestLeaves(u32, u32),
     RestEnters(u32, u32),
     AllRise(u32),
-    Past,
 }
 
 // How many bits tell r nodes apart.
@@ -39,69 +38,95 @@ fn bits(r: u32) -> u32
     u32::BITS - r.saturating_sub(1).leading_zeros()
 }
 
-// Arc a.
-fn arc_at(x: &Remaining, a: u32) -> Arc
-    requires { a < arc_count (input x.now) }
-    ensures is { result ≡ arc_at (input x.now) a }
-    ensures leaves { result.from < x.now.nodes }
-    ensures enters { result.to < x.now.nodes }
-    ensures low { result.variable < 2147483648 }
+// The added variables, in rows of as many as there are bits: for a node those of its label, and for
+// an arc those that say that the lowest bits rise along it.
+fn grid(x: &Remaining) -> Grid<'_>
+    ensures graph { result.x.now ≡ x.now }
+    ensures width { result.width ≡ bits_for x.now.nodes }
 {
-    x.arcs[a as usize]
+    Grid {
+        x,
+        width: bits(x.nodes),
+    }
 }
 
-// The variable of bit k of the label of node i.
-fn label_bit(x: &Remaining, i: u32, k: u32) -> u32
-    requires row { i < x.now.nodes }
-    requires first { 1 ≤ k }
-    requires last { k ≤ bits_for x.now.nodes }
-    ensures is { result ≡ numbers_y (input x.now) i k }
-    ensures low { result < 2147483648 }
-{
-    node_variable(x, bits(x.nodes), i, k)
-}
-
-// The variable that says that the lowest k bits rise along arc a.
-fn rise(x: &Remaining, a: u32, k: u32) -> u32
-    requires row { a < arc_count (input x.now) }
-    requires first { 1 ≤ k }
-    requires last { k ≤ bits_for x.now.nodes }
-    ensures is { result ≡ numbers_t (input x.now) a k }
-    ensures low { result < 2147483648 }
-{
-    arc_variable(x, bits(x.nodes), a, k)
-}
-
-// Which clause stands at k.
-fn find(x: &Remaining, k: u32) -> NumbersPlace
-    ensures is { nth (numbers_clauses (input x.now)) k ≡ numbers_at (input x.now) result }
-    ensures within { NumbersIn (input x.now) result }
+// The place of clause k, or none past the last.
+fn find(x: &Remaining, k: u32) -> Option<Place>
+    ensures is { nth (numbers_clauses (input x.now)) k ≡ option_map (numbers_at (input x.now)) result }
+    ensures within { IfSome result (NumbersIn (input x.now)) }
 {
     let middle = bits(x.nodes).saturating_sub(1) * 3;
     let width = middle + 3;
     let a = k / width;
-    if a >= arc_count(x) {
-        return NumbersPlace::Past;
+    if a >= x.arc_count() {
+        return None;
     }
     let at = k % width;
     if at == 0 {
-        return NumbersPlace::LowLeaves(a);
+        return Some(Place::LowLeaves(a));
     }
     if at == 1 {
-        return NumbersPlace::LowEnters(a);
+        return Some(Place::LowEnters(a));
     }
     let m = at - 2;
     if m >= middle {
-        return NumbersPlace::AllRise(a);
+        return Some(Place::AllRise(a));
     }
-    let row = m % 3;
-    if row == 0 {
-        return NumbersPlace::BitRises(a, m / 3 + 2);
+    let bit = m / 3 + 2;
+    match m % 3 {
+        0 => Some(Place::BitRises(a, bit)),
+        1 => Some(Place::RestLeaves(a, bit)),
+        _ => Some(Place::RestEnters(a, bit)),
     }
-    if row == 1 {
-        return NumbersPlace::RestLeaves(a, m / 3 + 2);
+}
+
+impl Place {
+    // The length of the clause that stands here.
+    fn length(self) -> u32
+        ensures { (x : Input) → result ≡ length (numbers_at x self) }
+    {
+        match self {
+            Place::LowLeaves(_) | Place::LowEnters(_) | Place::AllRise(_) => 2,
+            Place::BitRises(_, _) | Place::RestLeaves(_, _) | Place::RestEnters(_, _) => 3,
+        }
     }
-    NumbersPlace::RestEnters(a, m / 3 + 2)
+
+    // Literal j of the clause that stands here.
+    fn literal(self, x: &Remaining, j: u32) -> Option<i32>
+        requires { NumbersIn (input x.now) self }
+        ensures { result ≡ nth (numbers_at (input x.now) self) j }
+    {
+        let grid = grid(x);
+        match self {
+            Place::LowLeaves(a) => {
+                let leaves = grid.node_variable(x.arc_at(a).from, 1).negative();
+                literal_at([grid.arc_variable(a, 1).negative(), leaves], j)
+            }
+            Place::LowEnters(a) => {
+                let enters = grid.node_variable(x.arc_at(a).to, 1).positive();
+                literal_at([grid.arc_variable(a, 1).negative(), enters], j)
+            }
+            Place::BitRises(a, bit) => {
+                let leaves = grid.node_variable(x.arc_at(a).from, bit).negative();
+                let enters = grid.node_variable(x.arc_at(a).to, bit).positive();
+                literal_at([grid.arc_variable(a, bit).negative(), leaves, enters], j)
+            }
+            Place::RestLeaves(a, bit) => {
+                let leaves = grid.node_variable(x.arc_at(a).from, bit).negative();
+                let rest = grid.arc_variable(a, bit - 1).positive();
+                literal_at([grid.arc_variable(a, bit).negative(), leaves, rest], j)
+            }
+            Place::RestEnters(a, bit) => {
+                let enters = grid.node_variable(x.arc_at(a).to, bit).positive();
+                let rest = grid.arc_variable(a, bit - 1).positive();
+                literal_at([grid.arc_variable(a, bit).negative(), enters, rest], j)
+            }
+            Place::AllRise(a) => {
+                let rise = grid.arc_variable(a, grid.width).positive();
+                literal_at([x.chosen(a).negative(), rise], j)
+            }
+        }
+    }
 }
 
 impl Closing for Numbers {
@@ -116,69 +141,20 @@ impl Closing for Numbers {
     ghost small = { λ s. numbers_small };
 
     fn added(&self, x: &Remaining) -> u32 {
-        let b = bits(x.nodes);
-        x.nodes * b + arc_count(x) * b
+        grid(x).added()
     }
 
     fn count(&self, x: &Remaining) -> u32 {
-        let b = bits(x.nodes);
-        arc_count(x) * (b.saturating_sub(1) * 3 + 3)
+        x.arc_count() * (bits(x.nodes).saturating_sub(1) * 3 + 3)
     }
 
     fn length(&self, x: &Remaining, k: u32) -> Option<u32> {
-        match find(x, k) {
-            NumbersPlace::LowLeaves(_) | NumbersPlace::LowEnters(_) | NumbersPlace::AllRise(_) =>
-                Some(2),
-            NumbersPlace::BitRises(_, _)
-            | NumbersPlace::RestLeaves(_, _)
-            | NumbersPlace::RestEnters(_, _) => Some(3),
-            NumbersPlace::Past => None,
-        }
+        let place = find(x, k)?;
+        Some(place.length())
     }
 
+    #[tactic(auto, using(crate::specs::RangesLemmas::told, crate::specs::RangesLemmas::told_none))]
     fn literal(&self, x: &Remaining, k: u32, j: u32) -> Option<i32> {
-        match find(x, k) {
-            NumbersPlace::LowLeaves(a) => {
-                let i = arc_at(x, a).from;
-                of_two(negative(rise(x, a, 1)), negative(label_bit(x, i, 1)), j)
-            }
-            NumbersPlace::LowEnters(a) => {
-                let i = arc_at(x, a).to;
-                of_two(negative(rise(x, a, 1)), positive(label_bit(x, i, 1)), j)
-            }
-            NumbersPlace::BitRises(a, bit) => {
-                let arc = arc_at(x, a);
-                let leaves = negative(label_bit(x, arc.from, bit));
-                of_three(
-                    negative(rise(x, a, bit)),
-                    leaves,
-                    positive(label_bit(x, arc.to, bit)),
-                    j,
-                )
-            }
-            NumbersPlace::RestLeaves(a, bit) => {
-                let i = arc_at(x, a).from;
-                of_three(
-                    negative(rise(x, a, bit)),
-                    negative(label_bit(x, i, bit)),
-                    positive(rise(x, a, bit - 1)),
-                    j,
-                )
-            }
-            NumbersPlace::RestEnters(a, bit) => {
-                let i = arc_at(x, a).to;
-                of_three(
-                    negative(rise(x, a, bit)),
-                    positive(label_bit(x, i, bit)),
-                    positive(rise(x, a, bit - 1)),
-                    j,
-                )
-            }
-            NumbersPlace::AllRise(a) => {
-                let e = arc_at(x, a).variable;
-                of_two(negative(e), positive(rise(x, a, bits(x.nodes))), j)
-            }
-            NumbersPlace::Past => None,
-        }
+        find(x, k)?.literal(x, j)
     }
 }

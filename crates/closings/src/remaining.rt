@@ -9,6 +9,8 @@ use crate::arc::Arc;
 pub struct Remaining {
     // how many nodes remain
     pub nodes: u32,
+    // places for as many arcs as can remain, held by the graph itself: it outlives the arcs that it was
+    // made of, and there is no heap
     pub arcs: [Arc; 4096],
     // how many places of `arcs` hold one
     pub count: u32,

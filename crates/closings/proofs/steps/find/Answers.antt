@@ -1,6 +1,6 @@
 -- The place that is found is that of the clause.
 use Rattle.closings.specs.Inputs.{input}
-use Rattle.closings.specs.StepsListing.{found_enters, found_leaves, found_past, found_rises, found_some_step}
+use Rattle.closings.specs.StepsListing.{found_enters, found_leaves, none_past, found_rises, found_some_step}
 use Rattle.closings.proofs.steps.find.Goals as goal
 
 pub returns-then-k-rises : goal.returns-then-k-rises
@@ -11,9 +11,9 @@ returns-then-k-rises c =
 
 pub returns-then-a-arc_count : goal.returns-then-a-arc_count
 returns-then-a-arc_count c =
-    let f = found_past (input c.args.x.now) c.args.k _ _ c.step_count-steps.ensures
+    let f = none_past (input c.args.x.now) c.args.k _ _ c.step_count-steps.ensures
     c.saturating_sub-row.ensures c.if-k-rises.false (rw c.arc_count.ensures.is at c.if-a-arc_count.true) in
-    record { is = f.is; within = tt }
+    record { is = f; within = tt }
 
 pub returns-then-at-steps : goal.returns-then-at-steps
 returns-then-at-steps c =
