@@ -39,6 +39,8 @@ pub trait Closing {
         ensures value { result ≡ min (length (slice_index_or (means self.now (input x.now)) k []) - from) (length out.old) }
         ensures after { out.new ≡ take result (drop from (slice_index_or (means self.now (input x.now)) k [])) ++ drop result out.old }
     {
+        // the body of a formula's copying again: one that passes `self` on to a generic function was
+        // tried, and gets no proof unless it is final, which no closing could then write for itself
         let left = self.length(x, k).unwrap_or(0).saturating_sub(from) as usize;
         let n = left.min(out.len());
         for i in 0..n {

@@ -1,7 +1,7 @@
 // One of the three closings, chosen by its name; a closing itself.
 ghost use Rattle.closings.specs.Named.{name_of, named_adds, named_means};
 ghost use Rattle.closings.specs.declared.named.NamedClosing.{NamedClosing as The-closing};
-ghost use Rattle.std.specs.Prelude.{◌≡◌, Some, MatchOption, ◌≢◌};
+ghost use Rattle.std.specs.Prelude.{◌≡◌, Some, MatchOption, Decides, ◌≢◌};
 ghost use Rattle.closings.specs.ClosureLaw.{closure_closes, closure_uses, closure_small};
 ghost use Rattle.closings.specs.NumbersLaw.{numbers_closes, numbers_uses, numbers_small};
 ghost use Rattle.closings.specs.StepsLaw.{steps_closes, steps_uses, steps_small};
@@ -22,30 +22,47 @@ pub enum NamedClosing {
 }
 
 impl NamedClosing {
-    // The closing of a name, `steps`, `numbers` or `closure`, or none.
+    // The three.
+    pub const ALL: [NamedClosing; 3] = [
+        NamedClosing::BySteps,
+        NamedClosing::ByNumbers,
+        NamedClosing::ByClosure,
+    ];
+
+    // The closing's name.
+    pub fn name(self) -> &'static str
+        ensures { result.now ≡ name_of self }
+    {
+        match self {
+            NamedClosing::BySteps => "steps",
+            NamedClosing::ByNumbers => "numbers",
+            NamedClosing::ByClosure => "closure",
+        }
+    }
+
+    // Whether a name is this closing's.
+    fn is_named(self, name: &[u8]) -> bool
+        ensures { Decides result (name.now ≡ name_of self) }
+    {
+        name == self.name().as_bytes()
+    }
+
+    // The closing of a name, or none.
     pub fn from_name(name: &[u8]) -> Option<NamedClosing>
         ensures named { MatchOption result ((c : The-closing) → name.now ≢ name_of c) (λ c. name.now ≡ name_of c) }
     {
-        if name == b"steps".as_slice() {
-            return Some(NamedClosing::BySteps);
-        }
-        if name == b"numbers".as_slice() {
-            return Some(NamedClosing::ByNumbers);
-        }
-        if name == b"closure".as_slice() {
-            return Some(NamedClosing::ByClosure);
-        }
-        None
+        NamedClosing::ALL
+            .iter()
+            .find(|closing| closing.is_named(name))
+            .copied()
     }
 }
 
 impl fmt::Display for NamedClosing {
+    ghost output = { λ c. Some (name_of c) };
+
     fn fmt<W: fmt::Write>(&self, f: &mut fmt::Formatter<W>) -> fmt::Result {
-        match self {
-            NamedClosing::BySteps => write!(f, "steps"),
-            NamedClosing::ByNumbers => write!(f, "numbers"),
-            NamedClosing::ByClosure => write!(f, "closure"),
-        }
+        f.write_str(self.name())
     }
 }
 
