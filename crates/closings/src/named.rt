@@ -66,6 +66,8 @@ impl fmt::Display for NamedClosing {
     }
 }
 
+// Each answer chooses for itself: a method that takes the question as a closure over `&dyn Closing` was
+// tried, and gets no proof, since a bound with such a type cannot be stated yet.
 impl Closing for NamedClosing {
     ghost means = { named_means };
 
