@@ -7,7 +7,6 @@ use Rattle.cnf.specs.Clauses.{Clause, minus}
 use Rattle.cnf.specs.Satisfaction.{Meets, Sat, Values}
 use Rattle.graph.specs.Walks.{Ringless, Walk, more, one}
 use Rattle.std.proofs.lemmas.Nat.{div-mul-add, mod-mul-add, mul-add-lt}
-use Rattle.std.proofs.ByRecursion.{All-append}
 use Rattle.std.proofs.lemmas.Bool.{cases_Bool, le-ltb, lt-ltb, ltb-true}
 use Rattle.std.specs.List.{AllByRecursion}
 use Rattle.closings.specs.ClosureClauses.{arc_before, closure_adds, closure_clauses, closure_y, never_itself, transitive}
@@ -19,7 +18,7 @@ use Rattle.closings.specs.Blocks.{own_chosen}
 use Rattle.closings.specs.ClosureListing.{length_closure}
 use Rattle.closings.specs.Extension.{extended, extended_at, extended_extends}
 use Rattle.closings.specs.Horn.{meets_minus, meets_pos, only_pos, past_minus, variable_minus}
-use Rattle.closings.specs.RangesLemmas.{all_each, all_left, all_right, all_upto, each_all, upto_all}
+use Rattle.closings.specs.RangesLemmas.{all_append, all_each, all_left, all_right, all_upto, each_all, upto_all}
 use Rattle.closings.specs.Ranked.{chosen_inside, ranked}
 
 -- what holds of each clause, and back
@@ -40,8 +39,8 @@ module _ (P : Clause → Type 0) (x : Input) where
   all_closure f g h =
       let square : (i : ℕ) → i < r → AllByRecursion P (each r (row i)) =
       λ i p. all_each P (row i) r (λ j q. all_upto P (λ k. transitive x i j k) r (λ k s. g i j k p q s)) in
-      All-append P _ _ (all_upto P (never_itself x) r f)
-      (All-append P _ _ (all_each P (λ i. each r (row i)) r square) (all_upto P (arc_before x) (arc_count x) h))
+      all_append P _ _ (all_upto P (never_itself x) r f)
+      (all_append P _ _ (all_each P (λ i. each r (row i)) r square) (all_upto P (arc_before x) (arc_count x) h))
 
   module _ (all : AllByRecursion P (closure_clauses x)) where
     rest : AllByRecursion P (through ++ upto (arc_count x) (arc_before x))

@@ -10,7 +10,6 @@ use Rattle.cnf.specs.Clauses.{Clause, minus}
 use Rattle.cnf.specs.Satisfaction.{Meets, Sat, Values}
 use Rattle.graph.specs.Walks.{Ringless}
 use Rattle.std.proofs.lemmas.Nat.{mod_below, mul-le, pow_pos}
-use Rattle.std.proofs.ByRecursion.{All-append}
 use Rattle.std.proofs.lemmas.Bool.{cases_Bool, false≢true, lt-ltb, ltb-true}
 use Rattle.std.specs.List.{AllByRecursion}
 use Rattle.closings.specs.Inputs.{Chosen, Input, Lawful, arc_at, arc_count}
@@ -24,7 +23,7 @@ use Rattle.closings.specs.Blocks.{arc_positive, node_positive, value_arc, value_
 use Rattle.closings.specs.Blocks.{own_arc, own_chosen, own_minus_arc, own_minus_node, own_node}
 use Rattle.closings.specs.Horn.{meets_minus, meets_pos, only_minus, only_pos, past_minus, past_pos}
 use Rattle.closings.specs.NumbersListing.{length_numbers, of_bit, some_bit}
-use Rattle.closings.specs.RangesLemmas.{all_each, all_left, all_right, each_all}
+use Rattle.closings.specs.RangesLemmas.{all_append, all_each, all_left, all_right, each_all}
 use Rattle.closings.specs.Ranked.{ranked, rises_ringless}
 use Rattle.closings.specs.Widths.{bits_enough, bits_least}
 
@@ -40,7 +39,7 @@ record OfArc (P : Clause → Type 0) (x : Input) (a : ℕ) : Type 0 where
 module _ (P : Clause → Type 0) (x : Input) where
   all_of_arc : (a : ℕ) → OfArc P x a → AllByRecursion P (numbers_of_arc x a)
   unfolding of_bit
-  all_of_arc a h = (h.at_low_leaves, (h.at_low_enters, All-append P _ _ bits (h.at_all_rise, tt)))
+  all_of_arc a h = (h.at_low_leaves, (h.at_low_enters, all_append P _ _ bits (h.at_all_rise, tt)))
     where
       bits : AllByRecursion P (each (bits_for x.nodes - 1) (of_bit x a))
       bits =

@@ -8,7 +8,6 @@ use Rattle.cnf.specs.Clauses.{Clause}
 use Rattle.cnf.specs.Satisfaction.{Meets, Sat, Values}
 use Rattle.graph.specs.Walks.{Ringless, Walk, more, one}
 use Rattle.std.proofs.lemmas.Nat.{mul-le}
-use Rattle.std.proofs.ByRecursion.{All-append}
 use Rattle.std.proofs.lemmas.Bool.{and_from, and_left, and_right, both_ways, cases_Bool, cases_lt, le-leb, leb-true, lt-leb, not_from_false, not_from_true}
 use Rattle.std.specs.List.{AllByRecursion}
 use Rattle.closings.specs.Inputs.{Chosen, Input, Lawful, arc_at, arc_count}
@@ -20,7 +19,7 @@ use Rattle.closings.specs.ArcFacts.{arcs_few, square_few}
 use Rattle.closings.specs.Blocks.{arc_positive, node_positive, own_arc, own_chosen, own_minus_arc, own_minus_node, own_node}
 use Rattle.closings.specs.Blocks.{value_arc, value_node, values, values_extend}
 use Rattle.closings.specs.Horn.{meets_minus, meets_pos, only_minus, only_pos, past_minus, past_pos}
-use Rattle.closings.specs.RangesLemmas.{all_each, all_left, all_right, all_upto, each_all, upto_all}
+use Rattle.closings.specs.RangesLemmas.{all_append, all_each, all_left, all_right, all_upto, each_all, upto_all}
 use Rattle.closings.specs.Ranked.{ranked}
 use Rattle.closings.specs.SomeOf.{meets_some, some_true}
 use Rattle.closings.specs.StepsListing.{length_steps, some_step_length}
@@ -33,11 +32,11 @@ module _ (P : Clause → Type 0) (x : Input) where
       → ((a : ℕ) → a < arc_count x → P (some_step x a)) → AllByRecursion P (steps_clauses x)
   unfolding steps_clauses
   all_steps f g h =
-      All-append P _ _
+      all_append P _ _
       (all_each P (λ i. upto (x.nodes - 2) (λ t. label_rises x i (t + 2))) x.nodes (λ i p.
       all_upto P (λ t. label_rises x i (t + 2)) (x.nodes - 2) (λ t l. f i (t + 2) p (omega arith) (omega arith))))
       (all_each P (steps_of_arc x) (arc_count x) (λ a p.
-      All-append P _ _
+      all_append P _ _
       (all_each P (λ t. step_leaves x a (t + 1) ∷ (step_enters x a (t + 1) ∷ [])) (x.nodes - 1) (λ t l.
       let b = g a (t + 1) p (omega arith) (omega arith) in (b.0, (b.1, tt))))
       (h a p, tt)))

@@ -43,8 +43,8 @@ pub trait Closing {
         // tried, and gets no proof unless it is final, which no closing could then write for itself
         let left = self.length(x, k).unwrap_or(0).saturating_sub(from) as usize;
         let n = left.min(out.len());
-        for i in 0..n {
-            out[i] = self.literal(x, k, from + i as u32).unwrap_or(0);
+        for (i, place) in out[..n].iter_mut().enumerate() {
+            *place = self.literal(x, k, from + i as u32).unwrap_or(0);
         }
         n
     }

@@ -4,6 +4,6 @@ use Rattle.closings.proofs.closing.Closing.copy_literals.Given as goal
 
 abbrev pub invariant-loop-i : goal.invariant-loop-i
 invariant-loop-i g l =
-    l.out
+    l.place-items
     ≡ take l.i (drop l.from (get_or (g.Self.Closing.means l.self (input l.x)) l.k []))
-    ++ drop l.i l.initial.out
+    ++ drop l.i l.initial.place-items
