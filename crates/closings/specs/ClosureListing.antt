@@ -12,11 +12,11 @@ use Rattle.closings.specs.Inputs.{Input, arc_count}
 use Rattle.closings.specs.Ranges.{each, upto}
 use Rattle.closings.specs.RangesLemmas.{length_each, length_upto, nth_each, nth_left, nth_right, nth_upto}
 
-pub positive_square : (a b k : ℕ) → k < a * b → 0 < b
+positive_square : (a b k : ℕ) → k < a * b → 0 < b
 positive_square a zero k h = omega (arith, mul-zero a)
 positive_square a (suc b) k h = omega arith
 
-pub positive_cube : (a k : ℕ) → k < a * (a * a) → 0 < a
+positive_cube : (a k : ℕ) → k < a * (a * a) → 0 < a
 positive_cube zero k h = omega (arith, zero-mul (0 * 0))
 positive_cube (suc a) k h = omega arith
 

@@ -14,7 +14,7 @@ use Rattle.closings.specs.Inputs.{Input, arc_count}
 use Rattle.closings.specs.Ranges.{each, upto}
 use Rattle.closings.specs.StepsClauses.{label_rises, some_step, step_enters, step_leaves}
 use Rattle.closings.specs.StepsClauses.{steps_clauses, steps_of_arc, steps_s}
-use Rattle.closings.specs.StepsPlaces.{StepsIn, steps_at}
+use Rattle.closings.specs.StepsPlaces.{steps_at}
 use Rattle.closings.specs.declared.steps.Place.{Place}
 use Rattle.closings.specs.declared.steps.Place.TheVariants.{Enters, Leaves, Rises, SomeStep}
 use Rattle.closings.specs.RangesLemmas.{length_each, length_upto, nth_each, nth_left, nth_right, nth_upto}
@@ -149,21 +149,16 @@ module _ (x : Input) where
   pub some_step_past : (a j : ℕ) → 0 < x.nodes → x.nodes ≤ j → nth (some_step x a) j ≡ None
   some_step_past a j p h = nth_past (some_step x a) j (omega (arith, some_step_length a p))
 
--- p is the place of clause k
-pub record Found (x : Input) (k : ℕ) (p : Place) : Type 0 where
-  pub is : nth (steps_clauses x) k ≡ Some (steps_at x p)
-  pub within : StepsIn x p
+-- the clause at the place that is found
+abbrev Found : Input → ℕ → Place → Type 0
+Found x k p = nth (steps_clauses x) k ≡ Some (steps_at x p)
 
 -- as it is reckoned, with q for r − 1 and w for r − 2
 module _ (x : Input) (k q w : ℕ) (eq : q ≡ x.nodes - 1) (ew : w ≡ x.nodes - 2) where
   pub found_rises : k < x.nodes * w → Found x k (Rises (k / w) (k % w + 2))
   found_rises h =
       let p = factor_positive x.nodes w k h in
-      let l = mod_below k w p in
-      record {
-        is = rw ew (rises_at x k (omega arith) (rw ew at h));
-        within = (div_below k w x.nodes p h, omega arith, omega arith);
-      }
+      rw ew (rises_at x k (omega arith) (rw ew at h))
 
   module _ (past : x.nodes * w ≤ k) where
     n : ℕ
@@ -198,18 +193,18 @@ module _ (x : Input) (k q w : ℕ) (eq : q ≡ x.nodes - 1) (ew : w ≡ x.nodes 
       pub found_some_step
           : q * 2 ≤ (k - x.nodes * w) % (q * 2 + 1) → Found x k (SomeStep ((k - x.nodes * w) / (q * 2 + 1)))
       unfolding a c
-      found_some_step l = let low = c_low in record { is = at_arc ∙ some_step_at x a c (omega arith); within = h }
+      found_some_step l = let low = c_low in at_arc ∙ some_step_at x a c (omega arith)
 
       pub found_leaves
           : (k - x.nodes * w) % (q * 2 + 1) < q * 2 → (k - x.nodes * w) % (q * 2 + 1) % 2 ≡ 0
           → Found x k (Leaves ((k - x.nodes * w) / (q * 2 + 1)) ((k - x.nodes * w) % (q * 2 + 1) / 2 + 1))
       unfolding a c
       found_leaves l e =
-          record { is = at_arc ∙ leaves_at x a c (omega arith) e; within = (h, omega arith, omega arith) }
+          at_arc ∙ leaves_at x a c (omega arith) e
 
       pub found_enters
           : (k - x.nodes * w) % (q * 2 + 1) < q * 2 → ((k - x.nodes * w) % (q * 2 + 1) % 2 ≢ 0)
           → Found x k (Enters ((k - x.nodes * w) / (q * 2 + 1)) ((k - x.nodes * w) % (q * 2 + 1) / 2 + 1))
       unfolding a c
       found_enters l e =
-          record { is = at_arc ∙ enters_at x a c (omega arith) (omega arith); within = (h, omega arith, omega arith) }
+          at_arc ∙ enters_at x a c (omega arith) (omega arith)

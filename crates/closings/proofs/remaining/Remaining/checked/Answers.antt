@@ -1,5 +1,5 @@
 -- Arcs that a closing may rely on stay so at the front of their places.
-use Rattle.std.proofs.Common.{◌≡◌, ℕ, ◌+◌, ◌*◌, ◌<◌, ◌≤◌, List, length, take, sym, ap, ◌∙◌, subst, subst₂, arith, rules}
+use Rattle.std.proofs.Common.{◌≡◌, ℕ, ◌+◌, ◌*◌, ◌<◌, ◌≤◌, List, length, take, sym, ap, ◌∙◌, subst, subst₂, arith}
 use Rattle.std.proofs.lemmas.List.{get_or-take, length-take}
 use Rattle.closings.specs.Arcs.{Apart, Ascending, Ends, Variables, arc_in, no_arc}
 use Rattle.closings.specs.Inputs.{Input, Lawful}
@@ -34,9 +34,6 @@ module _ (x : Input) (law : Lawful x) (places : List Arc) (front : take (length 
 
 pub placed-requires : goal.placed-requires
 placed-requires c = arcs_4096 _ (c.ready.ensures.0 c.if-not-ready.false)
-
-pub overflow_cast-result : goal.overflow_cast-result
-overflow_cast-result c = let few = arcs_4096 _ (c.ready.ensures.0 c.if-not-ready.false) in search rules
 
 pub invariant_of-result : goal.invariant_of-result
 invariant_of-result c =
