@@ -1,6 +1,6 @@
 -- The clauses of Closure by their numbers.
 use Rattle.std.specs.Prelude.{◌≡◌, ℕ, zero, suc, ◌+◌, ◌*◌, ◌/◌, ◌%◌, ◌<◌, ◌≤◌, List, ◌++◌, length, Some, None}
-use Rattle.std.proofs.Common.{◌∙◌, mul-zero, zero-mul, arith}
+use Rattle.std.proofs.Common.{◌∙◌, zero-mul, arith}
 use Rattle.std.proofs.Math.Path.{ap, refl}
 use Rattle.bounded.proofs.Entries.{nth_past}
 use Rattle.bounded.specs.Lists.{nth}
@@ -10,11 +10,7 @@ use Rattle.std.proofs.lemmas.List.{length-append}
 use Rattle.closings.specs.ClosureClauses.{arc_before, closure_clauses, never_itself, transitive}
 use Rattle.closings.specs.Inputs.{Input, arc_count}
 use Rattle.closings.specs.Ranges.{each, upto}
-use Rattle.closings.specs.RangesLemmas.{length_each, length_upto, nth_each, nth_left, nth_right, nth_upto}
-
-positive_square : (a b k : ℕ) → k < a * b → 0 < b
-positive_square a zero k h = omega (arith, mul-zero a)
-positive_square a (suc b) k h = omega arith
+use Rattle.closings.specs.RangesLemmas.{factor_positive, length_each, length_upto, nth_each, nth_left, nth_right, nth_upto}
 
 positive_cube : (a k : ℕ) → k < a * (a * a) → 0 < a
 positive_cube zero k h = omega (arith, zero-mul (0 * 0))
@@ -97,7 +93,7 @@ module _ (x : Input) where
       ∙ ap (λ cs. nth cs (r + t)) parts
       ∙ nth_right itself (through ++ arcs) r t length_itself
       ∙ nth_left through arcs t (omega (arith, length_through))
-      ∙ through_at t h (positive_cube r t h) (positive_square r (r * r) t h)
+      ∙ through_at t h (positive_cube r t h) (factor_positive r (r * r) t h)
 
   pub closure_third
       : (k t : ℕ) → k ≡ x.nodes + (x.nodes * (x.nodes * x.nodes) + t) → t < arc_count x

@@ -1,6 +1,6 @@
 -- Lists made by ranges: what stands at a place, and what holds of each element; and how a clause at a place is told.
 use Rattle.std.specs.Prelude.{◌≡◌, ℕ, zero, suc, ◌+◌, ◌*◌, ◌/◌, ◌%◌, ◌<◌, List, [], ◌∷◌, ◌++◌, length, get_or, Some, None, Option, slice_index_or, refl}
-use Rattle.std.proofs.Common.{◌∙◌, ap, subst, sym, add-zero, div-add-mod', suc-mul, zero-add, zero-mul, arith}
+use Rattle.std.proofs.Common.{◌∙◌, ap, subst, sym, add-zero, div-add-mod', mul-zero, suc-mul, zero-add, zero-mul, arith}
 use Rattle.bounded.proofs.Entries.{nth_at}
 use Rattle.bounded.specs.Lists.{nth}
 use Rattle.std.proofs.lemmas.Nat.{div_below, mod_below}
@@ -15,6 +15,10 @@ none≢some h = let z : ◌≡◌ {A = ℕ} 0 1 = cc in omega arith
 
 pub some_same : {X : Type 0} {x y : X} → ◌≡◌ {A = Option X} (Some x) (Some y) → x ≡ y
 some_same h = cc
+
+pub factor_positive : (a b k : ℕ) → k < a * b → 0 < b
+factor_positive a zero k h = omega (arith, mul-zero a)
+factor_positive a (suc b) k h = omega arith
 
 module _ {X : Type 0} where
   -- element j of the list that stands at k

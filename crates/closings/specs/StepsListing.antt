@@ -1,7 +1,7 @@
 -- The clauses of the steps by their numbers, and the place that is found for each.
 use Rattle.std.specs.Prelude.{◌≡◌, ℕ, zero, suc, ◌+◌, ◌-◌, ◌*◌, ◌/◌, ◌%◌, ◌<◌, ◌≤◌, List, [], ◌∷◌, ◌++◌, length, pos, Some, None, ◌≢◌}
 use Rattle.std.proofs.Math.Logic.{⊎_elim}
-use Rattle.std.proofs.Common.{◌∙◌, mul-zero}
+use Rattle.std.proofs.Common.{◌∙◌}
 use Rattle.std.proofs.Math.Path.{ap, refl}
 use native.Mathlib.Omega.{arith}
 use Rattle.bounded.proofs.Entries.{nth_past}
@@ -17,11 +17,7 @@ use Rattle.closings.specs.StepsClauses.{steps_clauses, steps_of_arc, steps_s}
 use Rattle.closings.specs.StepsPlaces.{steps_at}
 use Rattle.closings.specs.declared.steps.Place.{Place}
 use Rattle.closings.specs.declared.steps.Place.TheVariants.{Enters, Leaves, Rises, SomeStep}
-use Rattle.closings.specs.RangesLemmas.{length_each, length_upto, nth_each, nth_left, nth_right, nth_upto}
-
-factor_positive : (a b k : ℕ) → k < a * b → 0 < b
-factor_positive a zero k h = omega (arith, mul-zero a)
-factor_positive a (suc b) k h = omega arith
+use Rattle.closings.specs.RangesLemmas.{factor_positive, length_each, length_upto, nth_each, nth_left, nth_right, nth_upto}
 
 module _ (x : Input) where
   -- the clauses of a node, those of all nodes, those of an arc and a step, and those of all arcs
