@@ -3,110 +3,48 @@
 // the rules and without this library.
 #![tactic(auto)]
 
+ghost use Rattle.std.specs.Prelude.{◌<◌};
+
 use closings::arc::Arc;
 use closings::closing::Closing;
 use closings::named::NamedClosing;
 use closings::remaining::Remaining;
+use std::alloc::{AllocError, Global};
 use std::io;
+use trials::Sequence;
 
-const CLOSINGS: [NamedClosing; 3] = [
-    NamedClosing::BySteps,
-    NamedClosing::ByNumbers,
-    NamedClosing::ByClosure,
-];
-
-// A linear congruential sequence.
-#[derive(Drop)]
-struct Sequence {
-    state: u64,
-}
-
-impl Sequence {
-    // The next number below `bound`, or 0 where that is 0.
-    fn below(&mut self, bound: u32) -> u32 {
-        self.state = self
-            .state
-            .wrapping_mul(6_364_136_223_846_793_005)
-            .wrapping_add(1_442_695_040_888_963_407);
-        let high = ((self.state >> 33) & 0x7fff_ffff) as u32;
-        if bound == 0 { 0 } else { high % bound }
-    }
-}
-
-// A list of arcs that is being drawn.
-#[derive(Drop)]
-struct Drawing {
-    arcs: [Arc; 4096],
-    count: usize,
-}
-
-impl Drawing {
-    // An arc on the next variable, where there is room.
-    fn draw(&mut self, from: u32, to: u32) {
-        if self.count < 4096 {
-            let variable = self.count as u32 + 1;
-            self.arcs[self.count] = Arc { from, to, variable };
-            self.count += 1;
+// Puts the arcs on the variables from 1 on, in order, or backwards, so that the variables fall while
+// the pairs rise.
+fn number(arcs: &mut [Arc], backwards: bool) {
+    if backwards {
+        for (arc, variable) in arcs.iter_mut().rev().zip(1..=4096) {
+            arc.variable = variable;
+        }
+    } else {
+        for (arc, variable) in arcs.iter_mut().zip(1..=4096) {
+            arc.variable = variable;
         }
     }
-
-    // Turns the variables round, so that they fall while the pairs rise.
-    fn turn(&mut self) {
-        let count = self.count.min(4096);
-        for a in 0..count {
-            self.arcs[a].variable = (count - a) as u32;
-        }
-    }
-
-    // The graph of n nodes, with the first free variable this far past the last.
-    fn remaining(&self, nodes: u32, gap: u32) -> Option<Remaining> {
-        let count = self.count.min(4096);
-        let first = (count as u32).saturating_add(gap);
-        Remaining::checked(nodes, &self.arcs[0..count], first)
-    }
 }
 
-// No arcs yet.
-fn blank() -> Drawing {
-    let none = Arc {
-        from: 0,
-        to: 0,
-        variable: 0,
-    };
-    Drawing {
-        arcs: [none; 4096],
-        count: 0,
-    }
-}
-
-// Some of the arcs between n nodes.
-fn draw_some(numbers: &mut Sequence, nodes: u32) -> Drawing {
-    let mut drawing = blank();
+// Those arcs between n nodes that are chosen, on no variable yet.
+fn draw<F: FnMut(u32, u32) -> bool>(
+    alloc: Global,
+    nodes: u32,
+    mut is_chosen: F,
+) -> Result<Vec<Arc>, AllocError>
+    requires { F.IsAlwaysCallable is_chosen }
+{
+    let mut arcs = Vec::new(alloc);
     for from in 0..nodes {
         for to in 0..nodes {
-            let chosen = numbers.below(3) == 0;
-            if chosen && from != to {
-                drawing.draw(from, to);
+            if is_chosen(from, to) {
+                let variable = 0;
+                arcs.push(Arc { from, to, variable })?;
             }
         }
     }
-    if numbers.below(2) == 1 {
-        drawing.turn();
-    }
-    drawing
-}
-
-// All arcs between n nodes.
-fn draw_all(nodes: u32) -> Drawing {
-    let mut drawing = blank();
-    for from in 0..nodes {
-        for to in 0..nodes {
-            if from != to {
-                drawing.draw(from, to);
-            }
-        }
-    }
-    drawing
+    Ok(arcs)
 }
 
 // Prints clause k of a closing.
@@ -123,38 +61,56 @@ fn print_clause<C: Closing>(
 }
 
 // Prints how much each closing adds, and every clause, or every so many-th.
-fn print_closings(rt: &HostRuntime, x: &Remaining, stride: u32) -> io::Result<()> {
-    for closing in CLOSINGS {
+fn print_closings(rt: &HostRuntime, x: &Remaining, stride: usize) -> io::Result<()>
+    requires { 0 < stride }
+{
+    for closing in NamedClosing::ALL {
         let added = closing.added(x);
         let count = closing.count(x);
         println!(rt; "{closing} {added} {count}")?;
-        for k in 0..count {
-            if stride != 0 && k % stride == 0 {
-                print_clause(rt, &closing, x, k)?;
-            }
+        for k in (0..count).step_by(stride) {
+            print_clause(rt, &closing, x, k)?;
         }
-        let past = closing.length(x, count).is_some();
-        if past {
+        if closing.length(x, count).is_some() {
             println!(rt; "a clause past the last")?;
         }
     }
     Ok(())
 }
 
+// Prints the closings of the graph of n nodes whose first free variable stands so far past the last
+// arc's.
+fn print_graph(
+    rt: &HostRuntime,
+    nodes: u32,
+    arcs: &[Arc],
+    gap: u32,
+    stride: usize,
+) -> io::Result<()>
+    requires { 0 < stride }
+{
+    let first = u32::try_from(arcs.len())
+        .unwrap_or(u32::MAX)
+        .saturating_add(gap);
+    match Remaining::checked(nodes, arcs, first) {
+        Some(x) => print_closings(rt, &x, stride),
+        None => println!(rt; "not fit"),
+    }
+}
+
 fn main(rt: HostRuntime) -> io::Result<()> {
     let mut numbers = Sequence { state: 9 };
     for _ in 0..40 {
         let nodes = numbers.below(6);
-        let drawing = draw_some(&mut numbers, nodes);
+        let mut arcs = draw(rt.alloc(), nodes, |from, to| {
+            numbers.below(3) == 0 && from != to
+        })?;
+        number(&mut arcs, numbers.below(2) == 1);
         let gap = numbers.below(3).saturating_add(1);
         println!(rt; "graph {nodes}")?;
-        match drawing.remaining(nodes, gap) {
-            Some(x) => print_closings(&rt, &x, 1)?,
-            None => println!(rt; "not fit")?,
-        }
+        print_graph(&rt, nodes, &arcs, gap, 1)?;
     }
-    match draw_all(64).remaining(64, 1) {
-        Some(x) => print_closings(&rt, &x, 9_973),
-        None => println!(rt; "not fit"),
-    }
+    let mut arcs = draw(rt.alloc(), 64, |from, to| from != to)?;
+    number(&mut arcs, false);
+    print_graph(&rt, 64, &arcs, 1, 9_973)
 }
