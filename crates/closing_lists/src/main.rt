@@ -16,12 +16,14 @@ use trials::Sequence;
 // Puts the arcs on the variables from 1 on, in order, or backwards, so that the variables fall while
 // the pairs rise.
 fn number(arcs: &mut [Arc], backwards: bool) {
+    // no graph takes more arcs than these
+    let variables = 1..=4096;
     if backwards {
-        for (arc, variable) in arcs.iter_mut().rev().zip(1..=4096) {
+        for (arc, variable) in arcs.iter_mut().rev().zip(variables) {
             arc.variable = variable;
         }
     } else {
-        for (arc, variable) in arcs.iter_mut().zip(1..=4096) {
+        for (arc, variable) in arcs.iter_mut().zip(variables) {
             arc.variable = variable;
         }
     }
