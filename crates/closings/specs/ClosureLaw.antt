@@ -2,6 +2,7 @@
 use Rattle.std.specs.Prelude.{◌≡◌, ℕ, ◌+◌, ◌*◌, ◌/◌, ◌%◌, ◌<◌, ◌≤◌, Bool, true, false, ◌⊎◌, List, ◌++◌, length, pos, ◌≢◌, nat_lt, refl}
 use Rattle.std.proofs.Common.{inl, inr, ◌∙◌, subst, arith}
 use Rattle.std.proofs.Math.Path.{ap}
+use Rattle.cnf.proofs.Every.{all_append}
 use Rattle.cnf.proofs.Satisfied.{all_sat, meets_later, meets_none, sat_all}
 use Rattle.cnf.specs.Clauses.{Clause, minus}
 use Rattle.cnf.specs.Satisfaction.{Meets, Sat, Values}
@@ -18,7 +19,7 @@ use Rattle.closings.specs.Blocks.{own_chosen}
 use Rattle.closings.specs.ClosureListing.{length_closure}
 use Rattle.closings.specs.Extension.{extended, extended_at, extended_extends}
 use Rattle.closings.specs.Horn.{meets_minus, meets_pos, only_pos, past_minus, variable_minus}
-use Rattle.closings.specs.RangesLemmas.{all_append, all_each, all_left, all_right, all_upto, each_all, upto_all}
+use Rattle.closings.specs.RangesLemmas.{all_each, all_left, all_right, all_upto, each_all, upto_all}
 use Rattle.closings.specs.Ranked.{chosen_inside, ranked}
 
 -- what holds of each clause, and back

@@ -5,6 +5,7 @@ use Rattle.std.proofs.Common.{◌∙◌, sym}
 use Rattle.std.proofs.Math.Path.{ap, subst, subst₂}
 use Rattle.std.proofs.Math.Nat.{mod-eq_of_lt, two-pow-succ}
 use native.Mathlib.Omega.{arith}
+use Rattle.cnf.proofs.Every.{all_append}
 use Rattle.cnf.proofs.Satisfied.{all_sat, meets_later, sat_all}
 use Rattle.cnf.specs.Clauses.{Clause, minus}
 use Rattle.cnf.specs.Satisfaction.{Meets, Sat, Values}
@@ -23,7 +24,7 @@ use Rattle.closings.specs.Blocks.{arc_positive, node_positive, value_arc, value_
 use Rattle.closings.specs.Blocks.{own_arc, own_chosen, own_minus_arc, own_minus_node, own_node}
 use Rattle.closings.specs.Horn.{meets_minus, meets_pos, only_minus, only_pos, past_minus, past_pos}
 use Rattle.closings.specs.NumbersListing.{length_numbers, of_bit, some_bit}
-use Rattle.closings.specs.RangesLemmas.{all_append, all_each, all_left, all_right, each_all}
+use Rattle.closings.specs.RangesLemmas.{all_each, all_left, all_right, each_all}
 use Rattle.closings.specs.Ranked.{ranked, rises_ringless}
 use Rattle.closings.specs.Widths.{bits_enough, bits_least}
 

@@ -5,7 +5,7 @@ use Rattle.bounded.proofs.Entries.{nth_at}
 use Rattle.bounded.specs.Lists.{nth}
 use Rattle.std.proofs.lemmas.Nat.{div_below, mod_below}
 use Rattle.std.proofs.lemmas.List.FromFn.{get_or-range_with_len, get_or-map-range_with_len, length-range_with_len, length-map-range_with_len}
-use Rattle.std.proofs.lemmas.List.Elements.{All-from_get_or, All-from_recursion, recursion_from_All}
+use Rattle.cnf.proofs.Every.{all_append, all_at, all_from_get_or}
 use Rattle.std.proofs.lemmas.List.{length-append}
 use Rattle.std.specs.List.{range_with_len, flat_map, AllByRecursion}
 use Rattle.closings.specs.Ranges.{each, upto}
@@ -87,10 +87,6 @@ module _ {X : Type 0} where
 
   -- what holds of each element
   module _ (P : X → Type 0) where
-    pub all_append : (xs ys : List X) → AllByRecursion P xs → AllByRecursion P ys → AllByRecursion P (xs ++ ys)
-    all_append [] ys h j = j
-    all_append (x ∷ xs) ys h j = (h.0, all_append xs ys h.1 j)
-
     pub all_left : (xs ys : List X) → AllByRecursion P (xs ++ ys) → AllByRecursion P xs
     all_left [] ys h = tt
     all_left (x ∷ xs) ys h = (h.0, all_left xs ys h.1)
@@ -101,17 +97,16 @@ module _ {X : Type 0} where
 
     pub all_upto : (f : ℕ → X) (n : ℕ) → ((i : ℕ) → i < n → P (f i)) → AllByRecursion P (upto n f)
     all_upto f n h =
-        recursion_from_All P (upto n f) (All-from_get_or P (upto n f) (f 0) (λ i l.
-        let k : i < n = omega (arith, length_upto f n) in subst P (sym (get_or_upto f n i (f 0) k)) (h i k)))
+        all_from_get_or P (upto n f) (f 0) (λ i l.
+        let k : i < n = omega (arith, length_upto f n) in subst P (sym (get_or_upto f n i (f 0) k)) (h i k))
 
     pub upto_all : (f : ℕ → X) (n : ℕ) → AllByRecursion P (upto n f) → (i : ℕ) → i < n → P (f i)
     upto_all f n h i l =
-        subst P (get_or_upto f n i (f 0) l)
-        (All-from_recursion P (upto n f) h i (f 0) (omega (arith, length_upto f n)))
+        subst P (get_or_upto f n i (f 0) l) (all_at P (upto n f) i (f 0) (omega (arith, length_upto f n)) h)
 
     all_joined : (f : ℕ → List X) (is : List ℕ) → AllByRecursion (λ i. AllByRecursion P (f i)) is → AllByRecursion P (flat_map f is)
     all_joined f [] h = tt
-    all_joined f (i ∷ is) h = all_append (f i) (flat_map f is) h.0 (all_joined f is h.1)
+    all_joined f (i ∷ is) h = all_append P (f i) (flat_map f is) h.0 (all_joined f is h.1)
 
     joined_all : (f : ℕ → List X) (is : List ℕ) → AllByRecursion P (flat_map f is) → AllByRecursion (λ i. AllByRecursion P (f i)) is
     joined_all f [] h = tt
@@ -120,16 +115,15 @@ module _ {X : Type 0} where
     pub all_each : (f : ℕ → List X) (n : ℕ) → ((i : ℕ) → i < n → AllByRecursion P (f i)) → AllByRecursion P (each n f)
     all_each f n h =
         let Q : ℕ → Type 0 = λ i. AllByRecursion P (f i) in
-        all_joined f (range_with_len 0 n)
-        (recursion_from_All Q (range_with_len 0 n) (All-from_get_or Q (range_with_len 0 n) 0 (λ i l.
+        all_joined f (range_with_len 0 n) (all_from_get_or Q (range_with_len 0 n) 0 (λ i l.
         let k : i < n = omega (arith, length-range_with_len 0 n) in
         let e : get_or (range_with_len 0 n) i 0 ≡ i = omega (arith, get_or-range_with_len 0 n i 0 k) in
-        subst Q (sym e) (h i k))))
+        subst Q (sym e) (h i k)))
 
     pub each_all : (f : ℕ → List X) (n : ℕ) → AllByRecursion P (each n f) → (i : ℕ) → i < n → AllByRecursion P (f i)
     each_all f n h i l =
         let Q : ℕ → Type 0 = λ j. AllByRecursion P (f j) in
         let e : get_or (range_with_len 0 n) i 0 ≡ i = omega (arith, get_or-range_with_len 0 n i 0 l) in
         subst Q e
-        (All-from_recursion Q (range_with_len 0 n) (joined_all f (range_with_len 0 n) h) i 0
-        (omega (arith, length-range_with_len 0 n)))
+        (all_at Q (range_with_len 0 n) i 0 (omega (arith, length-range_with_len 0 n))
+        (joined_all f (range_with_len 0 n) h))

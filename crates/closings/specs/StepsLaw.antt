@@ -3,6 +3,7 @@ use Rattle.std.specs.Prelude.{◌≡◌, ℕ, zero, suc, ◌+◌, ◌-◌, ◌*�
 use Rattle.std.proofs.Common.{inl, inr, ◌∙◌, ap, subst₂}
 use Rattle.std.proofs.Math.Path.{subst}
 use native.Mathlib.Omega.{arith}
+use Rattle.cnf.proofs.Every.{all_append}
 use Rattle.cnf.proofs.Satisfied.{all_sat, meets_later, sat_all}
 use Rattle.cnf.specs.Clauses.{Clause}
 use Rattle.cnf.specs.Satisfaction.{Meets, Sat, Values}
@@ -19,7 +20,7 @@ use Rattle.closings.specs.ArcFacts.{arcs_few, square_few}
 use Rattle.closings.specs.Blocks.{arc_positive, node_positive, own_arc, own_chosen, own_minus_arc, own_minus_node, own_node}
 use Rattle.closings.specs.Blocks.{value_arc, value_node, values, values_extend}
 use Rattle.closings.specs.Horn.{meets_minus, meets_pos, only_minus, only_pos, past_minus, past_pos}
-use Rattle.closings.specs.RangesLemmas.{all_append, all_each, all_left, all_right, all_upto, each_all, upto_all}
+use Rattle.closings.specs.RangesLemmas.{all_each, all_left, all_right, all_upto, each_all, upto_all}
 use Rattle.closings.specs.Ranked.{ranked}
 use Rattle.closings.specs.SomeOf.{meets_some, some_true}
 use Rattle.closings.specs.StepsListing.{length_steps, some_step_length}
