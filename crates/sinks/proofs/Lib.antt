@@ -1,2 +1,5 @@
+pub mod Forms
+pub mod Guards
+pub mod Offsets
 pub mod Piles
 pub mod Tables

@@ -1,18 +1,17 @@
 // A guard adds its literal at the end of every clause for the sink below, so that the clauses bind
 // only where that literal is false, and reads each clause below without its last literal.
-ghost use Rattle.std.specs.Prelude.{◌≡◌, ◌+◌, ◌<◌, ◌≤◌, [], ◌∷◌, ◌++◌, map, length, take, IfOk};
-ghost use Rattle.cnf.specs.States.{form_refusal, read_as, without_last};
-ghost use Rattle.sinks.specs.Layers.{guard_longest, guarded};
-ghost use Rattle.std.specs.Result.{result_err};
+ghost use Rattle.std.specs.Prelude.{◌≡◌, ◌+◌, ◌-◌, ◌<◌, [], ◌∷◌, ◌++◌, length, take};
+ghost use Rattle.cnf.specs.States.{guard};
+ghost use Rattle.sinks.specs.Layers.{guarded};
 
-use cnf::form::check_form;
-use cnf::formula::Formula;
-use cnf::refusal::SinkRefusal;
+use crate::layer::{Layer, Layered};
 use cnf::sink::Sink;
 
-#[derive(Drop)]
-pub struct Guard<S> {
-    below: S,
+pub type Guard<S> = Layered<S, GuardLiteral>;
+
+// What a guard does to clauses.
+#[derive(Clone, Copy)]
+pub struct GuardLiteral {
     literal: i32,
 }
 
@@ -28,31 +27,11 @@ fn put_onto(clause: &[i32], literal: i32, out: &mut [i32]) -> usize
     n + 1
 }
 
-impl<S: Sink> Guard<S> {
-    pub fn new(below: S, literal: i32) -> Guard<S>
-        ensures below { result.below ≡ below }
-        ensures literal { result.literal ≡ literal }
-    {
-        Guard { below, literal }
-    }
+impl Layer for GuardLiteral {
+    ghost layer = { λ g. guard g.literal };
 
-    // The sink below.
-    pub fn into_inner(self) -> S
-        ensures { result ≡ self.below }
-    {
-        let Guard { below, literal: _ } = self;
-        below
-    }
-
-    // The largest variable and the most literals.
-    fn bounds(&mut self) -> (u32, u32)
-        ensures top { result.0 ≡ (S.Sink.state self.old.below).top }
-        ensures longest { result.1 ≡ guard_longest self.old.literal (S.Sink.state self.old.below).top (S.Sink.state self.old.below).longest }
-        ensures bounds { (result.0 ≤ 1_073_741_823) × (result.1 ≤ 255) }
-        ensures tied { S.Formula.clauses self.old.below ≡ map (read_as (S.Sink.state self.old.below).layers) (S.Sink.state self.old.below).bottom }
-        ensures same { self.new ≡ self.old }
-    {
-        let (top, longest) = self.below.limits();
+    fn limits(&self, below: (u32, u32)) -> (u32, u32) {
+        let (top, longest) = below;
         let variable = self.literal.unsigned_abs();
         if variable == 0 || variable > top {
             (top, 0)
@@ -61,67 +40,25 @@ impl<S: Sink> Guard<S> {
         }
     }
 
-    // The clause as it is stored below, at the front of `out`, and its length.
-    fn stored(&mut self, clause: &[i32], out: &mut [i32]) -> Result<usize, SinkRefusal>
-        requires { 256 ≤ length out.old }
-        ensures answer { result_err result ≡ form_refusal (S.Sink.state self.old.below).top (guard_longest self.old.literal (S.Sink.state self.old.below).top (S.Sink.state self.old.below).longest) clause.now }
-        ensures stored { IfOk result (λ n. (n ≤ length out.old) × (take n out.new ≡ clause.now ++ (self.old.literal ∷ []))) }
-        ensures same { self.new ≡ self.old }
+    fn store(&self, clause: &[i32], below: (u32, u32), out: &mut [i32]) -> usize {
+        put_onto(clause, self.literal, out)
+    }
+
+    fn shown(&self, n: u32) -> u32 {
+        n.saturating_sub(1)
+    }
+
+    fn read(&self, literal: i32) -> i32 {
+        literal
+    }
+}
+
+impl<S: Sink> Guard<S> {
+    pub fn new(below: S, literal: i32) -> Guard<S>
+        ensures below { result.below ≡ below }
+        ensures literal { result.layer.literal ≡ literal }
+        ensures state { ⟦<Guard<S> as Sink>⟧.state result ≡ guarded literal (S.Sink.state below) }
     {
-        let (top, longest) = self.bounds();
-        check_form(clause, top, longest)?;
-        Ok(put_onto(clause, self.literal, out))
-    }
-}
-
-impl<S: Sink> Formula for Guard<S> {
-    ghost clauses = { λ s. map without_last (S.Formula.clauses s.below) };
-
-    fn count(&mut self) -> u32 {
-        self.below.count()
-    }
-
-    fn length(&mut self, k: u32) -> Option<u32> {
-        match self.below.length(k) {
-            Some(n) => Some(n.saturating_sub(1)),
-            None => None,
-        }
-    }
-
-    fn literal(&mut self, k: u32, j: u32) -> Option<i32> {
-        let n = self.below.length(k).unwrap_or(0);
-        if j < n.saturating_sub(1) {
-            self.below.literal(k, j)
-        } else {
-            None
-        }
-    }
-}
-
-impl<S: Sink> Sink for Guard<S> {
-    ghost state = { λ s. guarded s.literal (S.Sink.state s.below) };
-
-    ghost names = { λ s. S.Sink.names s.below };
-
-    fn limits(&mut self) -> (u32, u32) {
-        self.bounds()
-    }
-
-    fn room(&mut self) -> (u32, u32) {
-        self.below.room()
-    }
-
-    fn cost(&mut self, clause: &[i32]) -> u32 {
-        let mut buffer = [0; 256];
-        match self.stored(clause, &mut buffer) {
-            Ok(n) => self.below.cost(&buffer[0..n]),
-            Err(_) => 0,
-        }
-    }
-
-    fn add(&mut self, clause: &[i32]) -> Result<(), SinkRefusal> {
-        let mut buffer = [0; 256];
-        let n = self.stored(clause, &mut buffer)?;
-        self.below.add(&buffer[0..n])
+        Layered::over(below, GuardLiteral { literal })
     }
 }

@@ -2,5 +2,6 @@
 #![tactic(auto)]
 
 pub mod guard;
+pub mod layer;
 pub mod offset;
 pub mod table;

@@ -1,19 +1,18 @@
 // An offset adds its shift to every variable for the sink below, and reads a variable above the
 // shift as that much less and any other unchanged.
-ghost use Rattle.std.specs.Prelude.{◌≡◌, ◌+◌, ◌-◌, ◌≤◌, false, map, length, take, IfOk, unsigned_abs};
+ghost use Rattle.std.specs.Prelude.{◌≡◌, ◌+◌, ◌-◌, ◌≤◌, false, map, length, take, unsigned_abs};
 ghost use Rattle.cnf.specs.Clauses.{has_bad_literal};
-ghost use Rattle.cnf.specs.States.{form_refusal, lowered, raised};
+ghost use Rattle.cnf.specs.States.{lowered, offset, raised};
 ghost use Rattle.sinks.specs.Layers.{shifted};
-ghost use Rattle.std.specs.Result.{result_err};
 
-use cnf::form::check_form;
-use cnf::formula::Formula;
-use cnf::refusal::SinkRefusal;
+use crate::layer::{Layer, Layered};
 use cnf::sink::Sink;
 
-#[derive(Drop)]
-pub struct Offset<S> {
-    below: S,
+pub type Offset<S> = Layered<S, OffsetShift>;
+
+// What an offset does to clauses.
+#[derive(Clone, Copy)]
+pub struct OffsetShift {
     shift: u32,
 }
 
@@ -52,85 +51,39 @@ fn raise_all(clause: &[i32], top: u32, shift: u32, out: &mut [i32])
     requires room { length clause.now ≤ length out.old }
     ensures { take (length clause.now) out.new ≡ map (raised shift) clause.now }
 {
-    for i in 0..clause.len() {
-        out[i] = raise(clause[i], shift);
+    for (i, &literal) in clause.iter().enumerate() {
+        out[i] = raise(literal, shift);
+    }
+}
+
+impl Layer for OffsetShift {
+    ghost layer = { λ d. offset d.shift };
+
+    fn limits(&self, below: (u32, u32)) -> (u32, u32) {
+        let (top, longest) = below;
+        (top.saturating_sub(self.shift), longest)
+    }
+
+    fn store(&self, clause: &[i32], below: (u32, u32), out: &mut [i32]) -> usize {
+        raise_all(clause, below.0, self.shift, out);
+        clause.len()
+    }
+
+    fn shown(&self, n: u32) -> u32 {
+        n
+    }
+
+    fn read(&self, literal: i32) -> i32 {
+        lower(literal, self.shift)
     }
 }
 
 impl<S: Sink> Offset<S> {
     pub fn new(below: S, shift: u32) -> Offset<S>
         ensures below { result.below ≡ below }
-        ensures shift { result.shift ≡ shift }
+        ensures shift { result.layer.shift ≡ shift }
+        ensures state { ⟦<Offset<S> as Sink>⟧.state result ≡ shifted shift (S.Sink.state below) }
     {
-        Offset { below, shift }
-    }
-
-    // The sink below.
-    pub fn into_inner(self) -> S
-        ensures { result ≡ self.below }
-    {
-        let Offset { below, shift: _ } = self;
-        below
-    }
-
-    // The clause as it is stored below, at the front of `out`, and its length.
-    fn stored(&mut self, clause: &[i32], out: &mut [i32]) -> Result<usize, SinkRefusal>
-        requires { 256 ≤ length out.old }
-        ensures answer { result_err result ≡ form_refusal ((S.Sink.state self.old.below).top - self.old.shift) (S.Sink.state self.old.below).longest clause.now }
-        ensures stored { IfOk result (λ n. (n ≤ length out.old) × (take n out.new ≡ map (raised self.old.shift) clause.now)) }
-        ensures same { self.new ≡ self.old }
-    {
-        let (top, longest) = self.below.limits();
-        check_form(clause, top.saturating_sub(self.shift), longest)?;
-        raise_all(clause, top, self.shift, out);
-        Ok(clause.len())
-    }
-}
-
-impl<S: Sink> Formula for Offset<S> {
-    ghost clauses = { λ s. map (map (lowered s.shift)) (S.Formula.clauses s.below) };
-
-    fn count(&mut self) -> u32 {
-        self.below.count()
-    }
-
-    fn length(&mut self, k: u32) -> Option<u32> {
-        self.below.length(k)
-    }
-
-    fn literal(&mut self, k: u32, j: u32) -> Option<i32> {
-        match self.below.literal(k, j) {
-            Some(literal) => Some(lower(literal, self.shift)),
-            None => None,
-        }
-    }
-}
-
-impl<S: Sink> Sink for Offset<S> {
-    ghost state = { λ s. shifted s.shift (S.Sink.state s.below) };
-
-    ghost names = { λ s. S.Sink.names s.below };
-
-    fn limits(&mut self) -> (u32, u32) {
-        let (top, longest) = self.below.limits();
-        (top.saturating_sub(self.shift), longest)
-    }
-
-    fn room(&mut self) -> (u32, u32) {
-        self.below.room()
-    }
-
-    fn cost(&mut self, clause: &[i32]) -> u32 {
-        let mut buffer = [0; 256];
-        match self.stored(clause, &mut buffer) {
-            Ok(n) => self.below.cost(&buffer[0..n]),
-            Err(_) => 0,
-        }
-    }
-
-    fn add(&mut self, clause: &[i32]) -> Result<(), SinkRefusal> {
-        let mut buffer = [0; 256];
-        let n = self.stored(clause, &mut buffer)?;
-        self.below.add(&buffer[0..n])
+        Layered::over(below, OffsetShift { shift })
     }
 }

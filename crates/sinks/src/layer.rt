@@ -1,0 +1,130 @@
+// A layer lies between two sinks: it says what limits the sink above has, how a clause is stored
+// below, and how a clause below is read. Every layer makes a sink over every sink in the same way.
+ghost use Rattle.std.specs.Prelude.{◌≡◌, ◌≤◌, map, length, take, None, IfOk};
+ghost use Rattle.cnf.specs.States.{Layer, form_refusal};
+ghost use Rattle.sinks.specs.Layers.{layer_longest, layer_top, layered, read_by, read_literal, shown, stored_by};
+ghost use Rattle.std.specs.Result.{result_err};
+
+use cnf::form::check_form;
+use cnf::formula::Formula;
+use cnf::refusal::SinkRefusal;
+use cnf::sink::Sink;
+
+pub trait Layer: Copy {
+    // what it is in a state
+    ghost layer: { Self → Layer };
+
+    // The largest variable and the most literals above it, from those below.
+    fn limits(&self, below: (u32, u32)) -> (u32, u32)
+        ensures top { result.0 ≡ layer_top (layer self.now) below.0 }
+        ensures longest { result.1 ≡ layer_longest (layer self.now) below.0 below.1 };
+
+    // Copies a clause that it takes to the front of `out`, as it is stored below: how many literals.
+    fn store(&self, clause: &[i32], below: (u32, u32), out: &mut [i32]) -> usize
+        requires bounds { (below.0 ≤ 1_073_741_823) × (below.1 ≤ 256) }
+        requires taken { form_refusal (layer_top (layer self.now) below.0) (layer_longest (layer self.now) below.0 below.1) clause.now ≡ None }
+        requires room { 256 ≤ length out.old }
+        ensures within { result ≤ length out.old }
+        ensures stored { take result out.new ≡ stored_by (layer self.now) clause.now };
+
+    // How many literals it reads of a clause of `n`.
+    fn shown(&self, n: u32) -> u32
+        ensures { result ≡ shown (layer self.now) n };
+
+    // A literal as it reads it.
+    fn read(&self, literal: i32) -> i32
+        ensures { result ≡ read_literal (layer self.now) literal };
+}
+
+// A sink over the sink below, with a layer between.
+#[derive(Drop)]
+pub struct Layered<S, L> {
+    below: S,
+    layer: L,
+}
+
+impl<S: Sink, L: Layer> Layered<S, L> {
+    pub fn over(below: S, layer: L) -> Layered<S, L>
+        ensures below { result.below ≡ below }
+        ensures layer { result.layer ≡ layer }
+    {
+        Layered { below, layer }
+    }
+
+    // The sink below.
+    pub fn into_inner(self) -> S
+        ensures { result ≡ self.below }
+    {
+        let Layered { below, layer: _ } = self;
+        below
+    }
+
+    // The clause as it is stored below, at the front of `out`, and its length.
+    fn stored(&mut self, clause: &[i32], out: &mut [i32]) -> Result<usize, SinkRefusal>
+        requires { 256 ≤ length out.old }
+        ensures answer { result_err result ≡ form_refusal (layer_top (L.Layer.layer self.old.layer) (S.Sink.state self.old.below).top) (layer_longest (L.Layer.layer self.old.layer) (S.Sink.state self.old.below).top (S.Sink.state self.old.below).longest) clause.now }
+        ensures stored { IfOk result (λ n. (n ≤ length out.old) × (take n out.new ≡ stored_by (L.Layer.layer self.old.layer) clause.now)) }
+        ensures same { self.new ≡ self.old }
+    {
+        let below = self.below.limits();
+        let (top, longest) = self.layer.limits(below);
+        check_form(clause, top, longest)?;
+        Ok(self.layer.store(clause, below, out))
+    }
+}
+
+impl<S: Sink, L: Layer> Formula for Layered<S, L> {
+    ghost clauses = { λ s. map (read_by (L.Layer.layer s.layer)) (S.Formula.clauses s.below) };
+
+    fn count(&mut self) -> u32 {
+        self.below.count()
+    }
+
+    #[tactic(auto, using(crate::proofs::Piles::lengths_read))]
+    fn length(&mut self, k: u32) -> Option<u32> {
+        let n = self.below.length(k)?;
+        Some(self.layer.shown(n))
+    }
+
+    #[tactic(auto, using(crate::proofs::Piles::literal_told, crate::proofs::Piles::literal_untold))]
+    fn literal(&mut self, k: u32, j: u32) -> Option<i32> {
+        let n = self.length(k).unwrap_or(0);
+        if j >= n {
+            return None;
+        }
+        let literal = self.below.literal(k, j)?;
+        Some(self.layer.read(literal))
+    }
+}
+
+impl<S: Sink, L: Layer> Sink for Layered<S, L> {
+    ghost state = { λ s. layered (L.Layer.layer s.layer) (S.Sink.state s.below) };
+
+    ghost names = { λ s. S.Sink.names s.below };
+
+    #[tactic(auto, using(crate::proofs::Piles::all_read_over))]
+    fn limits(&mut self) -> (u32, u32) {
+        let below = self.below.limits();
+        self.layer.limits(below)
+    }
+
+    fn room(&mut self) -> (u32, u32) {
+        self.below.room()
+    }
+
+    #[tactic(auto, using(crate::proofs::Piles::layer_cost, crate::proofs::Piles::taken_below))]
+    fn cost(&mut self, clause: &[i32]) -> u32 {
+        let mut buffer = [0; 256];
+        match self.stored(clause, &mut buffer) {
+            Ok(n) => self.below.cost(&buffer[0..n]),
+            Err(_) => 0,
+        }
+    }
+
+    #[tactic(auto, using(crate::proofs::Piles::layer_answer, crate::proofs::Piles::layer_appended, crate::proofs::Piles::layer_after))]
+    fn add(&mut self, clause: &[i32]) -> Result<(), SinkRefusal> {
+        let mut buffer = [0; 256];
+        let n = self.stored(clause, &mut buffer)?;
+        self.below.add(&buffer[0..n])
+    }
+}
