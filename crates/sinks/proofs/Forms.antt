@@ -2,6 +2,7 @@
 use Rattle.std.proofs.Common.{◌≡◌, ℕ, Bool, true, false, cond, ◌||◌, eqb, ltb, Some, None, Option, refl, ap, ◌∙◌, arith}
 use Rattle.cnf.specs.Clauses.{Clause, bad_length, has_bad_literal}
 use Rattle.cnf.specs.States.{State, add_refusal, form_refusal}
+use Rattle.sinks.specs.Layers.{priced}
 use Rattle.cnf.specs.declared.refusal.SinkRefusal.{SinkRefusal}
 use Rattle.cnf.specs.declared.refusal.SinkRefusal.TheVariants.{Length, Literal, Room}
 
@@ -33,3 +34,11 @@ refused_for_room s c h =
     let p = form_parts s.top s.longest c h in
     ap (λ (x : Bool). cond x (Some Length) (cond (has_bad_literal s.top c) (Some Literal) (room_refusal s (s.cost c)))) p.0
     ∙ ap (λ (x : Bool). cond x (Some Literal) (room_refusal s (s.cost c))) p.1
+
+pub priced_taken
+    : (top longest : ℕ) (cost : Clause → ℕ) (stored : Clause → Clause) (c : Clause) → form_refusal top longest c ≡ None
+    → priced top longest cost stored c ≡ cost (stored c)
+priced_taken top longest cost stored c h =
+    let p = form_parts top longest c h in
+    ap (λ (x : Bool). cond x 0 (cond (has_bad_literal top c) 0 (cost (stored c)))) p.0
+    ∙ ap (λ (x : Bool). cond x 0 (cost (stored c))) p.1

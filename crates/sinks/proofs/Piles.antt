@@ -5,11 +5,11 @@ use Rattle.std.proofs.Math.ListN.{get_or-map}
 use Rattle.bounded.specs.Lists.{nth}
 use Rattle.bounded.proofs.Entries.{nth_map, nth_past}
 use Rattle.cnf.proofs.Copies.{length_or_zero}
-use Rattle.cnf.specs.Clauses.{Clause, has_bad_literal}
+use Rattle.cnf.specs.Clauses.{Clause}
 use Rattle.cnf.specs.States.{Layer, State, add_refusal, added, form_refusal, guard, lowered, offset, read_as, stored_as}
 use Rattle.cnf.specs.declared.refusal.SinkRefusal.{SinkRefusal}
-use Rattle.sinks.specs.Layers.{layer_longest, layer_top, layered, priced, read_by, read_literal, shown, stored_by}
-use Rattle.sinks.proofs.Forms.{form_parts, refused_for_room, room_refusal}
+use Rattle.sinks.specs.Layers.{layer_longest, layer_top, layered, read_by, read_literal, shown, stored_by}
+use Rattle.sinks.proofs.Forms.{form_parts, priced_taken, refused_for_room, room_refusal}
 use Rattle.sinks.proofs.Guards.{guard_form, length_without_last, nth_without_last, without_last_push}
 use Rattle.sinks.proofs.Offsets.{all_lowered_raised, offset_form}
 use Rattle.std.proofs.lemmas.Iterator.Adapters.{option_map_id}
@@ -36,14 +36,6 @@ nothing_read (offset d) = refl
 -- the clause at a place
 read_at : (l : Layer) (cs : List Clause) (k : ℕ) → get_or (map (read_by l) cs) k [] ≡ read_by l (get_or cs k [])
 read_at l cs k = ap (get_or (map (read_by l) cs) k) (sym (nothing_read l)) ∙ get_or-map (read_by l) cs k []
-
-priced_taken
-    : (top longest : ℕ) (cost : Clause → ℕ) (stored : Clause → Clause) (c : Clause) → form_refusal top longest c ≡ None
-    → priced top longest cost stored c ≡ cost (stored c)
-priced_taken top longest cost stored c h =
-    let p = form_parts top longest c h in
-    ap (λ (x : Bool). cond x 0 (cond (has_bad_literal top c) 0 (cost (stored c)))) p.0
-    ∙ ap (λ (x : Bool). cond x 0 (cost (stored c))) p.1
 
 -- how many literals it has, and each of them
 length_read : (l : Layer) (c : Clause) → length (read_by l c) ≡ shown l (length c)

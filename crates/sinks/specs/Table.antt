@@ -1,6 +1,5 @@
 -- The table: clauses cut from one run of literals, by pairs of an offset and a length. Assumes nothing.
 --     laid at ns                   the pairs of clauses of these lengths that lie one behind the other, from the offset at on
---     lengths ps, sum ns           the lengths of pairs; the sum of numbers
 --     part xs p, cut ps xs         the literals that a pair names; the clauses that pairs name
 --     joined cs                    the literals of clauses, one behind the other
 --     behind u c xs                a store xs with the clause c behind its first u literals, and every other place as it was
@@ -8,6 +7,7 @@
 --     table_cost c                 a clause costs its length, and one that is refused for its form nothing
 --     table_state pairs n literals u    what a table means whose buffers hold these pairs and literals, the first n and u of them in use
 use Rattle.std.specs.Prelude.{◌≡◌, ℕ, ◌+◌, ◌-◌, min, cond, List, [], ◌∷◌, ◌++◌, map, length, take, drop, ℤ}
+use Rattle.std.specs.List.{flat_map}
 use Rattle.cnf.specs.Clauses.{Clause, bad_length, has_bad_literal}
 use Rattle.cnf.specs.States.{State}
 
@@ -15,24 +15,14 @@ abbrev pub laid : ℕ → List ℕ → List (ℕ × ℕ)
 laid at [] = []
 laid at (n ∷ ns) = (at, n) ∷ laid (at + n) ns
 
-abbrev pub lengths : List (ℕ × ℕ) → List ℕ
-lengths [] = []
-lengths (p ∷ ps) = p.1 ∷ lengths ps
-
-abbrev pub sum : List ℕ → ℕ
-sum [] = 0
-sum (n ∷ ns) = n + sum ns
-
 abbrev pub part : {X : Type 0} → List X → ℕ × ℕ → List X
 part xs p = take p.1 (drop p.0 xs)
 
 abbrev pub cut : {X : Type 0} → List (ℕ × ℕ) → List X → List (List X)
-cut [] xs = []
-cut (p ∷ ps) xs = part xs p ∷ cut ps xs
+cut ps xs = map (part xs) ps
 
 abbrev pub joined : {X : Type 0} → List (List X) → List X
-joined [] = []
-joined (c ∷ cs) = c ++ joined cs
+joined cs = flat_map (λ c. c) cs
 
 abbrev pub behind : {X : Type 0} → ℕ → List X → List X → List X
 behind u c xs = take u xs ++ (c ++ drop (u + length c) xs)

@@ -1,11 +1,11 @@
 // A table of clauses in two lent buffers: their literals one behind the other, and for each clause
 // its offset and its length. Every question is answered in constant time.
 ghost use Rattle.std.specs.Prelude.{◌≡◌, ◌+◌, ◌-◌, ◌<◌, ◌≤◌, min, [], ◌∷◌, ◌++◌, length, take, is_ok, if◌then◌else◌, OnErr, OnOk, slice_set};
+ghost use Rattle.bounded.specs.Lists.{nth};
 ghost use Rattle.cnf.specs.States.{add_refusal, added};
-ghost use Rattle.sinks.specs.Table.{LaidOut, behind, cut, laid, lengths, sum, table_state};
+ghost use Rattle.sinks.specs.Table.{LaidOut, behind, cut, table_state};
 ghost use Rattle.std.specs.Result.{result_err};
 
-use bounded::Bounded;
 use cnf::form::check_form;
 use cnf::formula::Formula;
 use cnf::refusal::SinkRefusal;
@@ -15,14 +15,15 @@ const TOP: u32 = 1_073_741_823;
 
 const LONGEST: u32 = 256;
 
+// Its slices and lengths are no two `Bounded` lists: that proved, but a caller then no longer knew what
+// its buffers hold, since nothing is known of a loan that a struct inside a struct held.
 #[derive(Drop)]
 pub struct TableSink<'a> {
     literals: &'a mut [i32],
     used: usize,
     pairs: &'a mut [(u32, u32)],
     count: usize,
-    ghost chained: { laid 0 (lengths (take count pairs.now)) ≡ take count pairs.now },
-    ghost full: { sum (lengths (take count pairs.now)) ≡ used },
+    ghost laid_out: { LaidOut (take count pairs.now) (take used literals.now) },
     ghost inside: { used ≤ length literals.now },
     ghost few_units: { used ≤ 1_073_741_824 },
     ghost listed: { count ≤ length pairs.now },
@@ -36,15 +37,6 @@ fn store(literals: &mut [i32], at: usize, clause: &[i32])
 {
     let n = clause.len();
     literals[at..at + n].copy_from_slice(clause);
-}
-
-// Lists one pair more behind the first `count`.
-fn list_pair(pairs: &mut [(u32, u32)], count: usize, pair: (u32, u32))
-    requires { count < length pairs.old }
-    ensures { pairs.new ≡ slice_set pairs.old count pair }
-{
-    let mut list = Bounded::resume(pairs, count);
-    let _ = list.push(pair);
 }
 
 impl<'a> TableSink<'a> {
@@ -61,48 +53,32 @@ impl<'a> TableSink<'a> {
         }
     }
 
+    // Pair k, or none past the last in use.
+    fn pair(&self, k: u32) -> Option<(u32, u32)>
+        ensures { result ≡ nth (take self.now.count self.now.pairs.now) k }
+    {
+        self.pairs[..self.count].get(k as usize).copied()
+    }
+
+    // The literals in use.
+    fn run(&self) -> &[i32]
+        ensures { result.now ≡ take self.now.used self.now.literals.now }
+    {
+        &self.literals[..self.used]
+    }
+
     // How many clauses and literals there is room for.
     fn left(&self) -> (u32, u32)
         ensures entries { result.0 ≡ min (length self.now.pairs.now) 1_000_000 - self.now.count }
         ensures units { result.1 ≡ min (length self.now.literals.now) 1_073_741_824 - self.now.used }
     {
-        let entries = self.pairs.len().min(1_000_000).saturating_sub(self.count);
-        let units = self
-            .literals
-            .len()
-            .min(1_073_741_824)
-            .saturating_sub(self.used);
+        let entries = self.pairs.len().min(1_000_000) - self.count;
+        let units = self.literals.len().min(1_073_741_824) - self.used;
         (entries as u32, units as u32)
     }
 
-    // One clause more, where there is room.
-    fn keep(&mut self, clause: &[i32])
-        requires entries { self.old.count < min (length self.old.pairs.now) 1_000_000 }
-        requires units { self.old.used + length clause.now ≤ min (length self.old.literals.now) 1_073_741_824 }
-        ensures counts { (self.new.count ≡ self.old.count + 1) × (self.new.used ≡ self.old.used + length clause.now) }
-        ensures literals { self.new.literals.now ≡ behind self.old.used clause.now self.old.literals.now }
-        ensures pairs { self.new.pairs.now ≡ slice_set self.old.pairs.now self.old.count (self.old.used, length clause.now) }
-        ensures lent { (self.new.literals.ghost_name ≡ self.old.literals.ghost_name) × (self.new.pairs.ghost_name ≡ self.old.pairs.ghost_name) }
-    {
-        let n = clause.len();
-        let used = self.used;
-        let count = self.count;
-        let TableSink {
-            literals,
-            pairs,
-            ..
-        } = std::mem::replace(self, TableSink::new(&mut [], &mut []));
-        store(literals, used, clause);
-        list_pair(pairs, count, (used as u32, n as u32));
-        *self = TableSink {
-            literals,
-            used: used + n,
-            pairs,
-            count: count + 1,
-        };
-    }
-
     // Appends a clause as `add` does. Its contract also says what every place of both buffers holds.
+    #[tactic(auto, using(crate::proofs::Tables::table_laid_out, crate::proofs::Tables::table_appended, crate::proofs::Tables::table_added))]
     pub fn append(&mut self, clause: &[i32]) -> Result<(), SinkRefusal>
         ensures answer { result_err result ≡ add_refusal (table_state self.old.pairs.now self.old.count self.old.literals.now self.old.used) clause.now }
         ensures counts { OnOk result ((self.new.count ≡ self.old.count + 1) × (self.new.used ≡ self.old.used + length clause.now)) }
@@ -118,7 +94,10 @@ impl<'a> TableSink<'a> {
         if entries == 0 || (units as usize) < clause.len() {
             return Err(SinkRefusal::Room);
         }
-        self.keep(clause);
+        store(self.literals, self.used, clause);
+        self.pairs[self.count] = (self.used as u32, clause.len() as u32);
+        self.used += clause.len();
+        self.count += 1;
         Ok(())
     }
 
@@ -139,25 +118,18 @@ impl<'a> Formula for TableSink<'a> {
         self.count as u32
     }
 
+    #[tactic(auto, using(crate::proofs::Tables::lengths_told))]
     fn length(&mut self, k: u32) -> Option<u32> {
-        let k = k as usize;
-        if k >= self.count {
-            return None;
-        }
-        let (_, n) = self.pairs[k];
-        Some(n)
+        self.pair(k).map(|(_, n)| n)
     }
 
+    #[tactic(auto, using(crate::proofs::Tables::literal_at, crate::proofs::Tables::no_clause, crate::proofs::Tables::no_literal))]
     fn literal(&mut self, k: u32, j: u32) -> Option<i32> {
-        let k = k as usize;
-        if k >= self.count {
-            return None;
-        }
-        let (at, n) = self.pairs[k];
+        let (at, n) = self.pair(k)?;
         if j >= n {
             return None;
         }
-        Some(self.literals[at as usize + j as usize])
+        self.run().get(at as usize + j as usize).copied()
     }
 }
 
