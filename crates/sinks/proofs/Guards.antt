@@ -1,11 +1,11 @@
 -- Laws of a guard: a clause with its literal at the end is taken below, and is read back without it.
-use Rattle.std.proofs.Common.{◌≡◌, ℕ, zero, suc, ◌+◌, ◌-◌, ◌<◌, ◌≤◌, Bool, true, false, cond, ◌||◌, eqb, ltb, [], ◌∷◌, ◌++◌, length, ℤ, None, refl, ap, arith, length-append}
+use Rattle.std.proofs.Common.{◌≡◌, ℕ, zero, suc, ◌+◌, ◌-◌, ◌<◌, ◌≤◌, Bool, true, false, cond, ◌||◌, eqb, ltb, [], ◌∷◌, ◌++◌, length, ℤ, None, refl, ap, ◌∙◌, arith, length-append}
 use Rattle.bounded.specs.Lists.{nth}
 use Rattle.cnf.specs.Clauses.{Clause, bad_length, bad_literal, has_bad_literal}
 use Rattle.cnf.specs.States.{form_refusal, without_last}
 use Rattle.sinks.specs.Layers.{guard_longest}
 use Rattle.sinks.proofs.Forms.{form_from, form_parts}
-use Rattle.std.proofs.lemmas.Bool.{or_from, or_parts}
+use Rattle.std.proofs.lemmas.List.Folds.{list_any-append}
 use Rattle.std.proofs.lemmas.Bool.Decides.{nat_tests}
 
 pub length_without_last : (c : Clause) → length (without_last c) ≡ length c - 1
@@ -24,14 +24,6 @@ without_last_push [] g = refl
 without_last_push (z ∷ []) g = refl
 without_last_push (z ∷ (y ∷ ys)) g = ap (λ l. z ∷ l) (without_last_push (y ∷ ys) g)
 
-good_push
-    : (top : ℕ) (c : Clause) (g : ℤ) → has_bad_literal top c ≡ false → bad_literal top g ≡ false
-    → has_bad_literal top (c ++ (g ∷ [])) ≡ false
-good_push top [] g h m = or_from _ _ m refl
-good_push top (z ∷ zs) g h m =
-    let p = or_parts (bad_literal top z) _ h in
-    or_from _ _ p.0 (good_push top zs g p.1 m)
-
 guard_fits
     : (m : Bool) (longest n : ℕ) → (eqb n 0 || ltb (cond m 0 (longest - 1)) n) ≡ false → (m ≡ false) × (n + 1 ≤ longest)
 guard_fits true longest n h = absurd (grind (arith, nat_tests))
@@ -45,4 +37,6 @@ guard_form g top longest c h =
     let f = guard_fits (bad_literal top g) longest (length c) p.0 in
     let n : length (c ++ (g ∷ [])) ≡ length c + 1 = length-append c (g ∷ []) in
     let m : bad_length longest (c ++ (g ∷ [])) ≡ false = grind (arith, nat_tests) in
-    form_from top longest (c ++ (g ∷ [])) m (good_push top c g p.1 f.0)
+    let b : has_bad_literal top (c ++ (g ∷ [])) ≡ false =
+    list_any-append (bad_literal top) c (g ∷ []) ∙ (λ i. p.1 i || (f.0 i || false)) in
+    form_from top longest (c ++ (g ∷ [])) m b

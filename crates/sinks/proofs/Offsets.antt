@@ -21,10 +21,10 @@ lowered_raised d (negsuc n) h =
     let e : n + d - d ≡ n = omega arith in
     ap (λ (b : Bool). cond b (negsuc (n + d - d)) (negsuc (n + d))) t ∙ ap negsuc e
 
-pub good_bounds : (top : ℕ) (z : ℤ) → bad_literal top z ≡ false → (0 < nat_abs z) × (nat_abs z ≤ top)
+good_bounds : (top : ℕ) (z : ℤ) → bad_literal top z ≡ false → (0 < nat_abs z) × (nat_abs z ≤ top)
 good_bounds top z h = (grind (arith, nat_tests), grind (arith, nat_tests))
 
-pub good_at
+good_at
     : (top : ℕ) (c : Clause) (i : ℕ) → i < length c → has_bad_literal top c ≡ false → bad_literal top (get_or c i (pos 0)) ≡ false
 good_at top [] i l h = absurd (omega arith)
 good_at top (z ∷ zs) zero l h = (or_parts _ _ h).0
@@ -55,3 +55,11 @@ offset_form d top longest c h =
     let p = form_parts (top - d) longest c h in
     form_from top longest (map (raised d) c) (ap (λ n. eqb n 0 || ltb longest n) (length-map c (raised d)) ∙ p.0)
     (all_good_raised top d c p.1)
+
+-- a literal of such a clause can be raised
+pub raised_within
+    : (top d : ℕ) (c : Clause) (i : ℕ) → has_bad_literal (top - d) c ≡ false → i < length c
+    → nat_abs (get_or c i (pos 0)) + d ≤ top
+raised_within top d c i h l =
+    let f = good_bounds (top - d) (get_or c i (pos 0)) (good_at (top - d) c i l h) in
+    omega (arith, f.0, f.1)

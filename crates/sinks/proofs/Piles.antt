@@ -3,7 +3,7 @@
 use Rattle.std.proofs.Common.{◌≡◌, ℕ, zero, suc, ◌-◌, ◌<◌, ◌≤◌, Bool, true, false, cond, List, [], ◌∷◌, ◌++◌, map, length, get_or, drop, Some, None, Option, unwrap_or, sym, refl, ap, ◌∙◌, arith}
 use Rattle.std.proofs.Math.ListN.{get_or-map}
 use Rattle.bounded.specs.Lists.{nth}
-use Rattle.bounded.proofs.Entries.{nth_map, nth_past}
+use Rattle.std.proofs.lemmas.Option.{slice_get-map, slice_get_past}
 use Rattle.cnf.proofs.Copies.{length_or_zero}
 use Rattle.cnf.specs.Clauses.{Clause}
 use Rattle.cnf.specs.States.{Layer, State, add_refusal, added, form_refusal, guard, lowered, offset, read_as, stored_as}
@@ -50,7 +50,7 @@ lengths_read l (c ∷ cs) (suc k) = lengths_read l cs k
 
 nth_read : (l : Layer) (c : Clause) (j : ℕ) → j < length (read_by l c) → nth (read_by l c) j ≡ option_map (read_literal l) (nth c j)
 nth_read (guard g) c j h = nth_without_last c j (omega (arith, length_without_last c, h)) ∙ sym (option_map_id (nth c j))
-nth_read (offset d) c j h = nth_map (lowered d) c j
+nth_read (offset d) c j h = slice_get-map (lowered d) c j
 
 pub literal_read
     : (l : Layer) (cs : List Clause) (k j : ℕ) → j < length (get_or (map (read_by l) cs) k [])
@@ -119,4 +119,4 @@ literal_told l cs k j h = literal_read l cs k j (omega (arith, length_or_zero (m
 
 pub literal_untold
     : (cs : List Clause) (k j : ℕ) → unwrap_or (option_map length (nth cs k)) 0 ≤ j → nth (get_or cs k []) j ≡ None
-literal_untold cs k j h = nth_past (get_or cs k []) j (omega (arith, length_or_zero cs k, h))
+literal_untold cs k j h = slice_get_past (get_or cs k []) j (omega (arith, length_or_zero cs k, h))

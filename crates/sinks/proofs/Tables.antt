@@ -1,12 +1,12 @@
 -- Laws of clauses that lie one behind the other.
 use Rattle.std.proofs.Common.{◌≡◌, ℕ, zero, suc, ◌+◌, ◌-◌, ◌<◌, ◌≤◌, min, List, [], ◌∷◌, ◌++◌, map, length, get_or, take, drop, set, Some, None, unwrap_or, sym, refl, ap, ◌∙◌, zero-add, arith, length-append, length-drop, length-take}
-use Rattle.std.proofs.lemmas.List.{append-nil, append_assoc, drop-drop, drop-set-lt, drop_at, length-set, length-take-le, take_at, take_more_set}
+use Rattle.std.proofs.lemmas.List.{append-nil, append_assoc, drop-drop, drop-set-lt, drop_at, length-set, length-take-le, map-id, take_at, take_more_set}
 use Rattle.std.proofs.lemmas.List.Concat.{flat_map-append}
 use Rattle.std.proofs.lemmas.Option.{slice_get-map, slice_get_past, unwrap_or-slice_get}
 use Rattle.std.specs.Option.{option_map}
 use Rattle.bounded.specs.Lists.{nth}
 use Rattle.cnf.specs.Clauses.{Clause}
-use Rattle.cnf.specs.States.{added, form_refusal}
+use Rattle.cnf.specs.States.{added, form_refusal, read_as}
 use Rattle.sinks.specs.Table.{LaidOut, behind, cut, joined, laid, part, table_cost, table_state}
 use Rattle.sinks.proofs.Forms.{priced_taken}
 
@@ -161,3 +161,7 @@ module _ (pairs : List (ℕ × ℕ)) (n : ℕ) (xs : Clause) (u : ℕ) (c : Clau
         layers = [];
         bottom = table_appended i;
       }
+
+-- a table has no layers, and reads its clauses as they are
+pub read_as_they_are : (cs : List Clause) → cs ≡ map (read_as []) cs
+read_as_they_are cs = sym (map-id cs)

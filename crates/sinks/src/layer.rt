@@ -44,7 +44,7 @@ pub struct Layered<S, L> {
 }
 
 impl<S: Sink, L: Layer> Layered<S, L> {
-    pub fn over(below: S, layer: L) -> Layered<S, L>
+    pub(crate) fn over(below: S, layer: L) -> Layered<S, L>
         ensures below { result.below ≡ below }
         ensures layer { result.layer ≡ layer }
     {

@@ -45,6 +45,7 @@ fn lower(literal: i32, shift: u32) -> i32
 }
 
 // The clause with its variables moved up, at the front of `out`.
+#[tactic(auto, using(crate::proofs::Offsets::raised_within))]
 fn raise_all(clause: &[i32], top: u32, shift: u32, out: &mut [i32])
     requires bound { top ≤ 1_073_741_823 }
     requires fits { has_bad_literal (top - shift) clause.now ≡ false }

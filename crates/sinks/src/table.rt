@@ -138,6 +138,7 @@ impl<'a> Sink for TableSink<'a> {
 
     ghost names = { λ s. s.literals.ghost_name ∷ (s.pairs.ghost_name ∷ []) };
 
+    #[tactic(auto, using(crate::proofs::Tables::read_as_they_are))]
     fn limits(&mut self) -> (u32, u32) {
         (TOP, LONGEST)
     }
