@@ -76,18 +76,18 @@ module _ {ps : List (ℕ × ℕ)} {xs : Clause} (laid_out : LaidOut ps xs) where
       told at (c ∷ cs) (suc k) = told (at + length c) cs k
 
 -- a literal of a part
-nth_part : {X : Type 0} (xs : List X) (at n j : ℕ) → j < n → nth (part xs (at, n)) j ≡ nth xs (at + j)
-nth_part [] zero zero j h = absurd (omega arith)
-nth_part [] zero (suc n) j h = sym (slice_get_past [] (0 + j) (omega arith))
-nth_part [] (suc at) zero j h = absurd (omega arith)
-nth_part [] (suc at) (suc n) j h = sym (slice_get_past [] (suc at + j) (omega arith))
-nth_part (x ∷ xs) zero zero j h = absurd (omega arith)
-nth_part (x ∷ xs) zero (suc n) zero h = refl
-nth_part (x ∷ xs) zero (suc n) (suc j) h =
-    nth_part xs zero n j (omega arith) ∙ ap (nth xs) (zero-add j) ∙ ap (nth (x ∷ xs)) (sym (zero-add (suc j)))
-nth_part (x ∷ xs) (suc at) n j h =
+nth_take : {X : Type 0} (n j : ℕ) (xs : List X) → j < n → nth (take n xs) j ≡ nth xs j
+nth_take zero j xs h = absurd (omega arith)
+nth_take (suc n) j [] h = refl
+nth_take (suc n) zero (x ∷ xs) h = refl
+nth_take (suc n) (suc j) (x ∷ xs) h = nth_take n j xs (omega arith)
+
+nth_drop : {X : Type 0} (at j : ℕ) (xs : List X) → nth (drop at xs) j ≡ nth xs (at + j)
+nth_drop zero j xs = ap (nth xs) (sym (zero-add j))
+nth_drop (suc at) j [] = refl
+nth_drop (suc at) j (x ∷ xs) =
     let e : suc (at + j) ≡ suc at + j = omega arith in
-    nth_part xs at n j h ∙ ap (nth (x ∷ xs)) e
+    nth_drop at j xs ∙ ap (nth (x ∷ xs)) e
 
 -- the clause of a pair, and its literals
 clause_at : (ps : List (ℕ × ℕ)) (xs : Clause) (k : ℕ) → get_or (cut ps xs) k [] ≡ unwrap_or (option_map (part xs) (nth ps k)) []
@@ -108,7 +108,8 @@ pub literal_at
     : (ps : List (ℕ × ℕ)) (xs : Clause) (k j at n : ℕ) → nth ps k ≡ Some (at, n) → j < n
     → nth (get_or (cut ps xs) k []) j ≡ nth xs (at + j)
 literal_at ps xs k j at n e h =
-    ap (λ c. nth c j) (clause_at ps xs k ∙ ap (λ o. unwrap_or (option_map (part xs) o) []) e) ∙ nth_part xs at n j h
+    ap (λ c. nth c j) (clause_at ps xs k ∙ ap (λ o. unwrap_or (option_map (part xs) o) []) e) ∙ nth_take n j (drop at xs) h
+    ∙ nth_drop at j xs
 
 -- a clause stored behind the first u literals
 stored_front : {X : Type 0} (xs c : List X) (u : ℕ) → u + length c ≤ length xs → take (u + length c) (behind u c xs) ≡ take u xs ++ c

@@ -15,8 +15,8 @@ const TOP: u32 = 1_073_741_823;
 
 const LONGEST: u32 = 256;
 
-// Its slices and lengths are no two `Bounded` lists: that proved, but a caller then no longer knew what
-// its buffers hold, since nothing is known of a loan that a struct inside a struct held.
+// Two slices with their lengths, and not two `Bounded` lists: a table of those was proved too, but its
+// caller then no longer knew what its buffers hold, as of any loan in a struct inside a struct.
 #[derive(Drop)]
 pub struct TableSink<'a> {
     literals: &'a mut [i32],
@@ -80,12 +80,12 @@ impl<'a> TableSink<'a> {
     // Appends a clause as `add` does. Its contract also says what every place of both buffers holds.
     #[tactic(auto, using(crate::proofs::Tables::table_laid_out, crate::proofs::Tables::table_appended, crate::proofs::Tables::table_added))]
     pub fn append(&mut self, clause: &[i32]) -> Result<(), SinkRefusal>
-        ensures answer { result_err result ≡ add_refusal (table_state self.old.pairs.now self.old.count self.old.literals.now self.old.used) clause.now }
+        ensures answer { result_err result ≡ add_refusal (⟦<TableSink<'a> as Sink>⟧.state self.old) clause.now }
         ensures counts { OnOk result ((self.new.count ≡ self.old.count + 1) × (self.new.used ≡ self.old.used + length clause.now)) }
         ensures literals { OnOk result (self.new.literals.now ≡ behind self.old.used clause.now self.old.literals.now) }
         ensures pairs { OnOk result (self.new.pairs.now ≡ slice_set self.old.pairs.now self.old.count (self.old.used, length clause.now)) }
-        ensures after { table_state self.new.pairs.now self.new.count self.new.literals.now self.new.used ≡ (if is_ok result then added (table_state self.old.pairs.now self.old.count self.old.literals.now self.old.used) clause.now else table_state self.old.pairs.now self.old.count self.old.literals.now self.old.used) }
-        ensures appended { cut (take self.new.count self.new.pairs.now) (take self.new.used self.new.literals.now) ≡ (if is_ok result then cut (take self.old.count self.old.pairs.now) (take self.old.used self.old.literals.now) ++ (clause.now ∷ []) else cut (take self.old.count self.old.pairs.now) (take self.old.used self.old.literals.now)) }
+        ensures after { ⟦<TableSink<'a> as Sink>⟧.state self.new ≡ (if is_ok result then added (⟦<TableSink<'a> as Sink>⟧.state self.old) clause.now else ⟦<TableSink<'a> as Sink>⟧.state self.old) }
+        ensures appended { ⟦<TableSink<'a> as Formula>⟧.clauses self.new ≡ (if is_ok result then ⟦<TableSink<'a> as Formula>⟧.clauses self.old ++ (clause.now ∷ []) else ⟦<TableSink<'a> as Formula>⟧.clauses self.old) }
         ensures lent { (self.new.literals.ghost_name ≡ self.old.literals.ghost_name) × (self.new.pairs.ghost_name ≡ self.old.pairs.ghost_name) }
         ensures same { OnErr result (self.new ≡ self.old) }
     {
