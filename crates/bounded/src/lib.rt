@@ -23,7 +23,7 @@ pub enum ListRefusal<T> {
 }
 
 impl<T> ListRefusal<T> {
-    // The refusal's number.
+    // The refusal's number, by which texts and programs name it.
     pub fn number(&self) -> u32
         ensures { result ≡ list_number self.now }
     {

@@ -1,7 +1,7 @@
 // What is done with a list. Each method hands the slice to a function, so that the caller still knows
 // every place of its buffer once the list is gone.
-ghost use Rattle.std.specs.Prelude.{◌≡◌, ◌+◌, ◌-◌, ◌<◌, ◌≤◌, [], ◌∷◌, ◌++◌, length, take, drop, is_ok, IfErr, if◌then◌else◌, Some, MatchResult, nat_le, nat_lt, slice_set};
-ghost use Rattle.bounded.specs.Lists.{entries, nth, room};
+ghost use Rattle.std.specs.Prelude.{◌≡◌, ◌+◌, ◌-◌, ◌<◌, ◌≤◌, [], ◌∷◌, ◌++◌, length, take, drop, is_ok, IfErr, if◌then◌else◌, Some, MatchResult, nat_le, nat_lt, slice_set, slice_get};
+ghost use Rattle.bounded.specs.Lists.{entries, room};
 ghost use Rattle.bounded.specs.Refusals.{entry_back};
 
 use crate::{Bounded, ListRefusal};
@@ -47,7 +47,7 @@ impl<'a, T: Copy> Bounded<'a, T> {
 
     // Entry i, or none past the last.
     pub fn get(&self, i: usize) -> Option<T>
-        ensures { result ≡ nth (entries self.now) i }
+        ensures { result ≡ slice_get (entries self.now) i }
     {
         self.as_slice().get(i).copied()
     }
@@ -76,7 +76,7 @@ impl<'a, T: Copy> Bounded<'a, T> {
         ensures entries { entries self.new ≡ (if is_ok result then entries self.old ++ new.now else entries self.old) }
         ensures room { room self.new ≡ (if is_ok result then entries self.old ++ (new.now ++ drop (length (entries self.old) + length new.now) (room self.old)) else room self.old) }
         ensures lent { self.new.places.ghost_name ≡ self.old.places.ghost_name }
-        ensures refused { IfErr result (λ e. (nth new.now (length (room self.old) - length (entries self.old)) ≡ Some (entry_back e)) × (self.new ≡ self.old)) }
+        ensures refused { IfErr result (λ e. (slice_get new.now (length (room self.old) - length (entries self.old)) ≡ Some (entry_back e)) × (self.new ≡ self.old)) }
     {
         let at = self.count;
         check_fits(self.places.len() - at, new)?;
@@ -92,7 +92,7 @@ impl<'a, T: Copy> Bounded<'a, T> {
         ensures entries { entries self.new ≡ (if is_ok result then new.now else entries self.old) }
         ensures room { room self.new ≡ (if is_ok result then new.now ++ drop (length new.now) (room self.old) else room self.old) }
         ensures lent { self.new.places.ghost_name ≡ self.old.places.ghost_name }
-        ensures refused { IfErr result (λ e. (nth new.now (length (room self.old)) ≡ Some (entry_back e)) × (self.new ≡ self.old)) }
+        ensures refused { IfErr result (λ e. (slice_get new.now (length (room self.old)) ≡ Some (entry_back e)) × (self.new ≡ self.old)) }
     {
         check_fits(self.places.len(), new)?;
         overwrite(self.places, 0, new);
@@ -119,7 +119,7 @@ fn write<T: Copy>(places: &mut [T], at: usize, x: T)
 
 // Refuses new entries that are more than the places left, with the first that would find none.
 fn check_fits<T: Copy>(left: usize, new: &[T]) -> Result<(), ListRefusal<T>>
-    ensures { MatchResult result (λ _. length new.now ≤ left) (λ e. (left < length new.now) × (nth new.now left ≡ Some (entry_back e))) }
+    ensures { MatchResult result (λ _. length new.now ≤ left) (λ e. (left < length new.now) × (slice_get new.now left ≡ Some (entry_back e))) }
 {
     match new.get(left) {
         None => Ok(()),

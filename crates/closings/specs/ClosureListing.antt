@@ -1,9 +1,9 @@
 -- The clauses of Closure by their numbers.
+use Rattle.std.specs.List.{slice_get}
 use Rattle.std.specs.Prelude.{◌≡◌, ℕ, zero, suc, ◌+◌, ◌*◌, ◌/◌, ◌%◌, ◌<◌, ◌≤◌, List, ◌++◌, length, Some, None}
 use Rattle.std.proofs.Common.{◌∙◌, zero-mul, arith}
 use Rattle.std.proofs.Math.Path.{ap, refl}
-use Rattle.bounded.proofs.Entries.{nth_past}
-use Rattle.bounded.specs.Lists.{nth}
+use Rattle.std.proofs.lemmas.Option.{slice_get_past}
 use Rattle.cnf.specs.Clauses.{Clause}
 use Rattle.std.proofs.lemmas.Nat.{mod_below}
 use Rattle.std.proofs.lemmas.List.{length-append}
@@ -64,10 +64,10 @@ module _ (x : Input) where
       ∙ omega (arith, length-append through arcs, length_itself, length_through, length_arcs)
 
   -- the clause that stands at k, by the part that k lies in
-  pub closure_first : (k : ℕ) → k < x.nodes → nth (closure_clauses x) k ≡ Some (never_itself x k)
+  pub closure_first : (k : ℕ) → k < x.nodes → slice_get (closure_clauses x) k ≡ Some (never_itself x k)
   unfolding itself
   closure_first k h =
-      ap (λ cs. nth cs k) parts
+      ap (λ cs. slice_get cs k) parts
       ∙ nth_left itself (through ++ arcs) k (omega (arith, length_itself))
       ∙ nth_upto (never_itself x) r k h
 
@@ -75,7 +75,7 @@ module _ (x : Input) where
   abbrev pub through_clause : ℕ → Clause
   through_clause k = transitive x (k / (r * r)) (k % (r * r) / r) (k % (r * r) % r)
 
-  through_at : (k : ℕ) → k < r * (r * r) → 0 < r → 0 < r * r → nth through k ≡ Some (through_clause k)
+  through_at : (k : ℕ) → k < r * (r * r) → 0 < r → 0 < r * r → slice_get through k ≡ Some (through_clause k)
   unfolding through row
   through_at k h p q =
       let i = k / (r * r) in
@@ -87,25 +87,25 @@ module _ (x : Input) where
 
   pub closure_second
       : (k t : ℕ) → k ≡ x.nodes + t → t < x.nodes * (x.nodes * x.nodes)
-      → nth (closure_clauses x) k ≡ Some (through_clause t)
+      → slice_get (closure_clauses x) k ≡ Some (through_clause t)
   closure_second k t e h =
-      ap (nth (closure_clauses x)) e
-      ∙ ap (λ cs. nth cs (r + t)) parts
+      ap (slice_get (closure_clauses x)) e
+      ∙ ap (λ cs. slice_get cs (r + t)) parts
       ∙ nth_right itself (through ++ arcs) r t length_itself
       ∙ nth_left through arcs t (omega (arith, length_through))
       ∙ through_at t h (positive_cube r t h) (factor_positive r (r * r) t h)
 
   pub closure_third
       : (k t : ℕ) → k ≡ x.nodes + (x.nodes * (x.nodes * x.nodes) + t) → t < arc_count x
-      → nth (closure_clauses x) k ≡ Some (arc_before x t)
+      → slice_get (closure_clauses x) k ≡ Some (arc_before x t)
   unfolding arcs
   closure_third k t e h =
-      ap (nth (closure_clauses x)) e
-      ∙ ap (λ cs. nth cs (r + (r * (r * r) + t))) parts
+      ap (slice_get (closure_clauses x)) e
+      ∙ ap (λ cs. slice_get cs (r + (r * (r * r) + t))) parts
       ∙ nth_right itself (through ++ arcs) r (r * (r * r) + t) length_itself
       ∙ nth_right through arcs (r * (r * r)) t length_through
       ∙ nth_upto (arc_before x) (arc_count x) t h
 
   pub closure_past
-      : (k : ℕ) → x.nodes + x.nodes * (x.nodes * x.nodes) + arc_count x ≤ k → nth (closure_clauses x) k ≡ None
-  closure_past k h = let n = length_closure in nth_past (closure_clauses x) k (omega arith)
+      : (k : ℕ) → x.nodes + x.nodes * (x.nodes * x.nodes) + arc_count x ≤ k → slice_get (closure_clauses x) k ≡ None
+  closure_past k h = let n = length_closure in slice_get_past (closure_clauses x) k (omega arith)

@@ -1,11 +1,11 @@
 -- Which clause of the numbers stands at a place. The code counts with q, which is one less than the bits.
+use Rattle.std.specs.List.{slice_get}
 use Rattle.std.specs.Prelude.{◌≡◌, ℕ, suc, ◌+◌, ◌-◌, ◌*◌, ◌/◌, ◌%◌, ◌<◌, ◌≤◌, List, [], ◌∷◌, ◌++◌, length, Some, None, ◌≢◌}
 use Rattle.std.proofs.Math.Logic.{inl, inr}
 use Rattle.std.proofs.Common.{◌∙◌, ap}
 use Rattle.std.proofs.Math.Path.{refl}
 use native.Mathlib.Omega.{arith}
-use Rattle.bounded.proofs.Entries.{nth_past}
-use Rattle.bounded.specs.Lists.{nth}
+use Rattle.std.proofs.lemmas.Option.{slice_get_past}
 use Rattle.cnf.specs.Clauses.{Clause}
 use Rattle.std.proofs.lemmas.Nat.{div_below, le-div, mod_below}
 use Rattle.std.proofs.lemmas.List.{length-append}
@@ -49,21 +49,21 @@ module _ (x : Input) (a : ℕ) where
   pub length_of_arc : length (numbers_of_arc x a) ≡ (bits_for x.nodes - 1) * 3 + 3
   length_of_arc = ap length arc_parts ∙ omega (arith, length-append middle (all_rise x a ∷ []), length_middle)
 
-  after_two : (c m : ℕ) → c ≡ m + 2 → nth (numbers_of_arc x a) c ≡ nth (middle ++ (all_rise x a ∷ [])) m
+  after_two : (c m : ℕ) → c ≡ m + 2 → slice_get (numbers_of_arc x a) c ≡ slice_get (middle ++ (all_rise x a ∷ [])) m
   after_two c m e =
-      (let s : c ≡ suc (suc m) = omega arith in ap (nth (numbers_of_arc x a)) s)
-      ∙ ap (λ cs. nth cs (suc (suc m))) arc_parts
+      (let s : c ≡ suc (suc m) = omega arith in ap (slice_get (numbers_of_arc x a)) s)
+      ∙ ap (λ cs. slice_get cs (suc (suc m))) arc_parts
 
-  last_clause : (c m : ℕ) → c ≡ m + 2 → m ≡ (bits_for x.nodes - 1) * 3 → nth (numbers_of_arc x a) c ≡ Some (all_rise x a)
+  last_clause : (c m : ℕ) → c ≡ m + 2 → m ≡ (bits_for x.nodes - 1) * 3 → slice_get (numbers_of_arc x a) c ≡ Some (all_rise x a)
   last_clause c m e h =
       let w = (bits_for x.nodes - 1) * 3 in
       let z : m ≡ w + 0 = omega arith in
       after_two c m e
-      ∙ ap (nth (middle ++ (all_rise x a ∷ []))) z
+      ∙ ap (slice_get (middle ++ (all_rise x a ∷ []))) z
       ∙ nth_right middle (all_rise x a ∷ []) w 0 length_middle
 
   bit_clause
-      : (c m : ℕ) → c ≡ m + 2 → m < (bits_for x.nodes - 1) * 3 → nth (numbers_of_arc x a) c ≡ nth (of_bit (m / 3)) (m % 3)
+      : (c m : ℕ) → c ≡ m + 2 → m < (bits_for x.nodes - 1) * 3 → slice_get (numbers_of_arc x a) c ≡ slice_get (of_bit (m / 3)) (m % 3)
   unfolding middle
   bit_clause c m e h =
       after_two c m e
@@ -76,7 +76,7 @@ module _ (x : Input) where
   length_numbers = length_each (numbers_of_arc x) _ (length_of_arc x) (arc_count x)
 
   module _ (k w : ℕ) (e : w ≡ (bits_for x.nodes - 1) * 3 + 3) where
-    clause_of_arc : k / w < arc_count x → nth (numbers_clauses x) k ≡ nth (numbers_of_arc x (k / w)) (k % w)
+    clause_of_arc : k / w < arc_count x → slice_get (numbers_clauses x) k ≡ slice_get (numbers_of_arc x (k / w)) (k % w)
     unfolding numbers_clauses
     clause_of_arc h =
         nth_each (numbers_of_arc x) w (λ a. omega (arith, length_of_arc x a)) (arc_count x) k (omega arith) inside
@@ -88,8 +88,8 @@ module _ (x : Input) where
               | inr s ↦ absurd (let z = le-div (arc_count x) k w (omega arith) s in omega arith)
             ]
 
-    clause_past : arc_count x ≤ k / w → nth (numbers_clauses x) k ≡ None
-    clause_past h = nth_past (numbers_clauses x) k (omega (arith, length_numbers, ap (λ c. arc_count x * c) e, outside))
+    clause_past : arc_count x ≤ k / w → slice_get (numbers_clauses x) k ≡ None
+    clause_past h = slice_get_past (numbers_clauses x) k (omega (arith, length_numbers, ap (λ c. arc_count x * c) e, outside))
       where
         outside : arc_count x * w ≤ k
         outside =
@@ -100,21 +100,21 @@ module _ (x : Input) where
 
 -- the clause at the place that is found
 abbrev Found : Input → ℕ → Place → Type 0
-Found x k p = nth (numbers_clauses x) k ≡ Some (numbers_at x p)
+Found x k p = slice_get (numbers_clauses x) k ≡ Some (numbers_at x p)
 
 module _ (x : Input) (k q : ℕ) (e : q ≡ bits_for x.nodes - 1) where
-  pub none_past : arc_count x ≤ k / (q * 3 + 3) → nth (numbers_clauses x) k ≡ None
+  pub none_past : arc_count x ≤ k / (q * 3 + 3) → slice_get (numbers_clauses x) k ≡ None
   none_past h = clause_past x k (q * 3 + 3) (omega arith) h
 
   module _ (h : k / (q * 3 + 3) < arc_count x) where
-    here : nth (numbers_clauses x) k ≡ nth (numbers_of_arc x (k / (q * 3 + 3))) (k % (q * 3 + 3))
+    here : slice_get (numbers_clauses x) k ≡ slice_get (numbers_of_arc x (k / (q * 3 + 3))) (k % (q * 3 + 3))
     here = clause_of_arc x k (q * 3 + 3) (omega arith) h
 
     pub found_low_leaves : k % (q * 3 + 3) ≡ 0 → Found x k (LowLeaves (k / (q * 3 + 3)))
-    found_low_leaves z = here ∙ ap (nth (numbers_of_arc x (k / (q * 3 + 3)))) z
+    found_low_leaves z = here ∙ ap (slice_get (numbers_of_arc x (k / (q * 3 + 3)))) z
 
     pub found_low_enters : k % (q * 3 + 3) ≡ 1 → Found x k (LowEnters (k / (q * 3 + 3)))
-    found_low_enters z = here ∙ ap (nth (numbers_of_arc x (k / (q * 3 + 3)))) z
+    found_low_enters z = here ∙ ap (slice_get (numbers_of_arc x (k / (q * 3 + 3)))) z
 
     module _ (n0 : k % (q * 3 + 3) ≡ 0 → ⊥) (n1 : k % (q * 3 + 3) ≡ 1 → ⊥) where
       pub found_all_rise : q * 3 ≤ k % (q * 3 + 3) - 2 → Found x k (AllRise (k / (q * 3 + 3)))
@@ -127,11 +127,11 @@ module _ (x : Input) (k q : ℕ) (e : q ≡ bits_for x.nodes - 1) where
       module _ (l : k % (q * 3 + 3) - 2 < q * 3) where
         inner
             : (t : ℕ) → (k % (q * 3 + 3) - 2) % 3 ≡ t
-            → nth (numbers_clauses x) k ≡ nth (of_bit x (k / (q * 3 + 3)) ((k % (q * 3 + 3) - 2) / 3)) t
+            → slice_get (numbers_clauses x) k ≡ slice_get (of_bit x (k / (q * 3 + 3)) ((k % (q * 3 + 3) - 2) / 3)) t
         inner t z =
             here
             ∙ bit_clause x (k / (q * 3 + 3)) (k % (q * 3 + 3)) (k % (q * 3 + 3) - 2) (omega (arith, n0, n1)) (omega arith)
-            ∙ ap (nth (of_bit x (k / (q * 3 + 3)) ((k % (q * 3 + 3) - 2) / 3))) z
+            ∙ ap (slice_get (of_bit x (k / (q * 3 + 3)) ((k % (q * 3 + 3) - 2) / 3))) z
 
         pub found_bit_rises
             : (k % (q * 3 + 3) - 2) % 3 ≡ 0 → Found x k (BitRises (k / (q * 3 + 3)) ((k % (q * 3 + 3) - 2) / 3 + 2))

@@ -1,11 +1,11 @@
 -- The clauses of the steps by their numbers, and the place that is found for each.
+use Rattle.std.specs.List.{slice_get}
 use Rattle.std.specs.Prelude.{◌≡◌, ℕ, zero, suc, ◌+◌, ◌-◌, ◌*◌, ◌/◌, ◌%◌, ◌<◌, ◌≤◌, List, [], ◌∷◌, ◌++◌, length, pos, Some, None, ◌≢◌}
 use Rattle.std.proofs.Math.Logic.{⊎_elim}
 use Rattle.std.proofs.Common.{◌∙◌}
 use Rattle.std.proofs.Math.Path.{ap, refl}
 use native.Mathlib.Omega.{arith}
-use Rattle.bounded.proofs.Entries.{nth_past}
-use Rattle.bounded.specs.Lists.{nth}
+use Rattle.std.proofs.lemmas.Option.{slice_get_past}
 use Rattle.cnf.specs.Clauses.{Clause}
 use Rattle.std.proofs.lemmas.Nat.{div_below, le-div, mod_below}
 use Rattle.std.proofs.lemmas.List.{length-append}
@@ -75,11 +75,11 @@ module _ (x : Input) where
   -- the clauses of the nodes
   rises_at
       : (k : ℕ) → 0 < x.nodes - 2 → k < x.nodes * (x.nodes - 2)
-      → nth (steps_clauses x) k ≡ Some (label_rises x (k / (x.nodes - 2)) (k % (x.nodes - 2) + 2))
+      → slice_get (steps_clauses x) k ≡ Some (label_rises x (k / (x.nodes - 2)) (k % (x.nodes - 2) + 2))
   unfolding rows row_of
   rises_at k p h =
       let q = x.nodes - 2 in
-      ap (λ cs. nth cs k) parts
+      ap (λ cs. slice_get cs k) parts
       ∙ nth_left rows of_arcs k (omega (arith, length_rows))
       ∙ nth_each row_of q length_row x.nodes k p h
       ∙ nth_upto (λ t. label_rises x (k / q) (t + 2)) q (k % q) (mod_below k q p)
@@ -88,66 +88,66 @@ module _ (x : Input) where
   module _ (n w : ℕ) (wide : w ≡ (x.nodes - 1) * 2 + 1) where
     of_arc_at
         : n / w < arc_count x
-        → nth (steps_clauses x) (x.nodes * (x.nodes - 2) + n) ≡ nth (steps_of_arc x (n / w)) (n % w)
+        → slice_get (steps_clauses x) (x.nodes * (x.nodes - 2) + n) ≡ slice_get (steps_of_arc x (n / w)) (n % w)
     unfolding of_arcs
     of_arc_at h =
         let l : n < arc_count x * w =
         ⊎_elim (λ (b : n < arc_count x * w). b)
         (λ (b : arc_count x * w ≤ n). absurd (let z = le-div (arc_count x) n w (omega arith) b in omega arith))
         (cases_lt n (arc_count x * w)) in
-        ap (λ cs. nth cs (x.nodes * (x.nodes - 2) + n)) parts
+        ap (λ cs. slice_get cs (x.nodes * (x.nodes - 2) + n)) parts
         ∙ nth_right rows of_arcs (x.nodes * (x.nodes - 2)) n length_rows
         ∙ nth_each (steps_of_arc x) w (λ a. length_arc a ∙ omega arith) (arc_count x) n (omega arith) l
 
-    past_arcs : arc_count x ≤ n / w → nth (steps_clauses x) (x.nodes * (x.nodes - 2) + n) ≡ None
+    past_arcs : arc_count x ≤ n / w → slice_get (steps_clauses x) (x.nodes * (x.nodes - 2) + n) ≡ None
     past_arcs h =
         let l : arc_count x * w ≤ n =
         ⊎_elim (λ (b : n < arc_count x * w). absurd (let z = div_below n w (arc_count x) (omega arith) b in omega arith))
         (λ (b : arc_count x * w ≤ n). b) (cases_lt n (arc_count x * w)) in
         let e = ap (λ v. arc_count x * v) wide in
-        nth_past (steps_clauses x) _ (omega (arith, length_steps, e))
+        slice_get_past (steps_clauses x) _ (omega (arith, length_steps, e))
 
   -- within an arc's clauses
-  some_step_at : (a c : ℕ) → c ≡ (x.nodes - 1) * 2 → nth (steps_of_arc x a) c ≡ Some (some_step x a)
+  some_step_at : (a c : ℕ) → c ≡ (x.nodes - 1) * 2 → slice_get (steps_of_arc x a) c ≡ Some (some_step x a)
   some_step_at a c e =
       let z : c ≡ (x.nodes - 1) * 2 + 0 = omega arith in
-      ap (nth (steps_of_arc x a)) z
-      ∙ ap (λ cs. nth cs ((x.nodes - 1) * 2 + 0)) (arc_parts a)
+      ap (slice_get (steps_of_arc x a)) z
+      ∙ ap (λ cs. slice_get cs ((x.nodes - 1) * 2 + 0)) (arc_parts a)
       ∙ nth_right (pairs a) (some_step x a ∷ []) ((x.nodes - 1) * 2) 0 (length_pairs a)
 
-  pair_at : (a c : ℕ) → c < (x.nodes - 1) * 2 → nth (steps_of_arc x a) c ≡ nth (pair_of a (c / 2)) (c % 2)
+  pair_at : (a c : ℕ) → c < (x.nodes - 1) * 2 → slice_get (steps_of_arc x a) c ≡ slice_get (pair_of a (c / 2)) (c % 2)
   unfolding pairs
   pair_at a c h =
-      ap (λ cs. nth cs c) (arc_parts a)
+      ap (λ cs. slice_get cs c) (arc_parts a)
       ∙ nth_left (pairs a) (some_step x a ∷ []) c (omega (arith, length_pairs a))
       ∙ nth_each (pair_of a) 2 (length_pair a) (x.nodes - 1) c (omega arith) h
 
   leaves_at
-      : (a c : ℕ) → c < (x.nodes - 1) * 2 → c % 2 ≡ 0 → nth (steps_of_arc x a) c ≡ Some (step_leaves x a (c / 2 + 1))
+      : (a c : ℕ) → c < (x.nodes - 1) * 2 → c % 2 ≡ 0 → slice_get (steps_of_arc x a) c ≡ Some (step_leaves x a (c / 2 + 1))
   unfolding pair_of
-  leaves_at a c h e = pair_at a c h ∙ ap (nth (pair_of a (c / 2))) e
+  leaves_at a c h e = pair_at a c h ∙ ap (slice_get (pair_of a (c / 2))) e
 
   enters_at
-      : (a c : ℕ) → c < (x.nodes - 1) * 2 → c % 2 ≡ 1 → nth (steps_of_arc x a) c ≡ Some (step_enters x a (c / 2 + 1))
+      : (a c : ℕ) → c < (x.nodes - 1) * 2 → c % 2 ≡ 1 → slice_get (steps_of_arc x a) c ≡ Some (step_enters x a (c / 2 + 1))
   unfolding pair_of
-  enters_at a c h e = pair_at a c h ∙ ap (nth (pair_of a (c / 2))) e
+  enters_at a c h e = pair_at a c h ∙ ap (slice_get (pair_of a (c / 2))) e
 
   -- the literals of the clause that an arc has a step
   pub some_step_length : (a : ℕ) → 0 < x.nodes → length (some_step x a) ≡ x.nodes
   some_step_length a h = omega (arith, length_upto (λ t. pos (steps_s x a (t + 1))) (x.nodes - 1))
 
-  pub some_step_literal : (a j : ℕ) → 0 < j → j < x.nodes → nth (some_step x a) j ≡ Some (pos (steps_s x a j))
+  pub some_step_literal : (a j : ℕ) → 0 < j → j < x.nodes → slice_get (some_step x a) j ≡ Some (pos (steps_s x a j))
   some_step_literal a zero p h = absurd (omega arith)
   some_step_literal a (suc j) p h =
       nth_upto (λ t. pos (steps_s x a (t + 1))) (x.nodes - 1) j (omega arith)
       ∙ ap (λ t. Some (pos (steps_s x a t))) (let e : j + 1 ≡ suc j = omega arith in e)
 
-  pub some_step_past : (a j : ℕ) → 0 < x.nodes → x.nodes ≤ j → nth (some_step x a) j ≡ None
-  some_step_past a j p h = nth_past (some_step x a) j (omega (arith, some_step_length a p))
+  pub some_step_past : (a j : ℕ) → 0 < x.nodes → x.nodes ≤ j → slice_get (some_step x a) j ≡ None
+  some_step_past a j p h = slice_get_past (some_step x a) j (omega (arith, some_step_length a p))
 
 -- the clause at the place that is found
 abbrev Found : Input → ℕ → Place → Type 0
-Found x k p = nth (steps_clauses x) k ≡ Some (steps_at x p)
+Found x k p = slice_get (steps_clauses x) k ≡ Some (steps_at x p)
 
 -- as it is reckoned, with q for r − 1 and w for r − 2
 module _ (x : Input) (k q w : ℕ) (eq : q ≡ x.nodes - 1) (ew : w ≡ x.nodes - 2) where
@@ -167,7 +167,7 @@ module _ (x : Input) (k q w : ℕ) (eq : q ≡ x.nodes - 1) (ew : w ≡ x.nodes 
     wide : q * 2 + 1 ≡ (x.nodes - 1) * 2 + 1
     wide = omega arith
 
-    pub none_past : arc_count x ≤ (k - x.nodes * w) / (q * 2 + 1) → nth (steps_clauses x) k ≡ None
+    pub none_past : arc_count x ≤ (k - x.nodes * w) / (q * 2 + 1) → slice_get (steps_clauses x) k ≡ None
     unfolding n
     none_past h = rw back at (past_arcs x n (q * 2 + 1) wide h)
 
@@ -182,7 +182,7 @@ module _ (x : Input) (k q w : ℕ) (eq : q ≡ x.nodes - 1) (ew : w ≡ x.nodes 
       unfolding c
       c_low = mod_below (k - x.nodes * w) (q * 2 + 1) (omega arith)
 
-      at_arc : nth (steps_clauses x) k ≡ nth (steps_of_arc x a) c
+      at_arc : slice_get (steps_clauses x) k ≡ slice_get (steps_of_arc x a) c
       unfolding a c n
       at_arc = rw back at (of_arc_at x n (q * 2 + 1) wide h)
 

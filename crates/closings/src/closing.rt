@@ -1,8 +1,7 @@
 // A closing: for a graph that remains, a list of clauses and a number of added variables, so that
 // for every choice of arcs some values of the added variables meet the clauses exactly when the
 // chosen arcs have no ring. It tells its clauses as a formula tells its own.
-ghost use Rattle.std.specs.Prelude.{◌≡◌, ℕ, ◌+◌, ◌-◌, ◌≤◌, min, List, [], ◌++◌, length, take, drop, slice_index_or};
-ghost use Rattle.bounded.specs.Lists.{nth};
+ghost use Rattle.std.specs.Prelude.{◌≡◌, ℕ, ◌+◌, ◌-◌, ◌≤◌, min, List, [], ◌++◌, length, take, drop, slice_index_or, slice_get};
 ghost use Rattle.closings.specs.Inputs.{Input, Lawful, input};
 ghost use Rattle.closings.specs.Law.{Closes, Small, Uses};
 ghost use Rattle.cnf.specs.Clauses.{Clause};
@@ -27,11 +26,11 @@ pub trait Closing {
 
     // The length of clause k, or none past the last.
     fn length(&self, x: &Remaining, k: u32) -> Option<u32>
-        ensures { result ≡ option_map length (nth (means self.now (input x.now)) k) };
+        ensures { result ≡ option_map length (slice_get (means self.now (input x.now)) k) };
 
     // Literal j of clause k, or none past the last of either.
     fn literal(&self, x: &Remaining, k: u32, j: u32) -> Option<i32>
-        ensures { result ≡ nth (slice_index_or (means self.now (input x.now)) k []) j };
+        ensures { result ≡ slice_get (slice_index_or (means self.now (input x.now)) k []) j };
 
     // Copies the literals of clause k from place `from` on to the front of `out`, as many as there
     // are and as fit: how many. The places of `out` past them stay.

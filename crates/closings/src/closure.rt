@@ -1,8 +1,7 @@
 // The closing by a transitive closure. An added variable y(i,j), one for each pair of nodes, says that i
 // comes before j: no node comes before itself, the relation is transitive, and a chosen arc's start
 // comes before its end.
-ghost use Rattle.std.specs.Prelude.{◌≡◌, ◌<◌, length};
-ghost use Rattle.bounded.specs.Lists.{nth};
+ghost use Rattle.std.specs.Prelude.{◌≡◌, ◌<◌, length, slice_get};
 ghost use Rattle.closings.specs.ClosureClauses.{closure_adds, closure_clauses, closure_y};
 ghost use Rattle.closings.specs.ClosurePlaces.{closure_at, ClosureIn};
 ghost use Rattle.closings.specs.Inputs.{Input, input};
@@ -26,7 +25,7 @@ enum Place {
 
 // The place of clause k, or none past the last.
 fn find(x: &Remaining, k: u32) -> Option<Place>
-    ensures is { nth (closure_clauses (input x.now)) k ≡ option_map (closure_at (input x.now)) result }
+    ensures is { slice_get (closure_clauses (input x.now)) k ≡ option_map (closure_at (input x.now)) result }
     ensures within { IfSome result (ClosureIn (input x.now)) }
 {
     let nodes = x.nodes;
@@ -73,7 +72,7 @@ impl Place {
     // Literal j of the clause that stands here.
     fn literal(self, x: &Remaining, j: u32) -> Option<i32>
         requires { ClosureIn (input x.now) self }
-        ensures { result ≡ nth (closure_at (input x.now) self) j }
+        ensures { result ≡ slice_get (closure_at (input x.now) self) j }
     {
         match self {
             Place::NeverItself(i) => literal_at([before(x, i, i).negative()], j),

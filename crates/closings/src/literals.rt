@@ -1,6 +1,5 @@
 // The two literals of a variable, and a literal of a short clause by its place.
-ghost use Rattle.std.specs.Prelude.{◌≡◌, ◌<◌, pos};
-ghost use Rattle.bounded.specs.Lists.{nth};
+ghost use Rattle.std.specs.Prelude.{◌≡◌, ◌<◌, pos, slice_get};
 ghost use Rattle.cnf.specs.Clauses.{minus};
 
 // A variable that a literal can stand on.
@@ -28,7 +27,7 @@ impl Variable {
 
 // Literal j of a short clause.
 pub(crate) fn literal_at<const N: usize>(clause: [i32; N], j: u32) -> Option<i32>
-    ensures { result ≡ nth clause.entry j }
+    ensures { result ≡ slice_get clause.entry j }
 {
     clause.get(j as usize).copied()
 }

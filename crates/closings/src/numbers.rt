@@ -2,8 +2,7 @@
 // along every chosen arc the label has to rise, which it cannot do around a ring. There is one added
 // variable for each bit of each node's label, and one for each arc and bit, which says that along
 // that arc the label rises in that bit and those below it.
-ghost use Rattle.std.specs.Prelude.{◌≡◌, ◌≤◌, length};
-ghost use Rattle.bounded.specs.Lists.{nth};
+ghost use Rattle.std.specs.Prelude.{◌≡◌, ◌≤◌, length, slice_get};
 ghost use Rattle.closings.specs.Inputs.{Input, input};
 ghost use Rattle.closings.specs.NumbersClauses.{bits_for, numbers_adds, numbers_clauses};
 ghost use Rattle.closings.specs.NumbersPlaces.{NumbersIn, numbers_at};
@@ -52,7 +51,7 @@ fn grid(x: &Remaining) -> Grid<'_>
 
 // The place of clause k, or none past the last.
 fn find(x: &Remaining, k: u32) -> Option<Place>
-    ensures is { nth (numbers_clauses (input x.now)) k ≡ option_map (numbers_at (input x.now)) result }
+    ensures is { slice_get (numbers_clauses (input x.now)) k ≡ option_map (numbers_at (input x.now)) result }
     ensures within { IfSome result (NumbersIn (input x.now)) }
 {
     let middle = bits(x.nodes).saturating_sub(1) * 3;
@@ -94,7 +93,7 @@ impl Place {
     // Literal j of the clause that stands here.
     fn literal(self, x: &Remaining, j: u32) -> Option<i32>
         requires { NumbersIn (input x.now) self }
-        ensures { result ≡ nth (numbers_at (input x.now) self) j }
+        ensures { result ≡ slice_get (numbers_at (input x.now) self) j }
     {
         let grid = grid(x);
         match self {

@@ -3,8 +3,7 @@
 // so that what is true at one k stays true at the next. For arc a the variable s(a,k) says that step
 // k tells its ends apart, which is that y(i,k) is false of the node it leaves and y(j,k) true of the
 // node it enters; an arc that is chosen has such a step.
-ghost use Rattle.std.specs.Prelude.{◌≡◌, ◌-◌, ◌<◌, length};
-ghost use Rattle.bounded.specs.Lists.{nth};
+ghost use Rattle.std.specs.Prelude.{◌≡◌, ◌-◌, ◌<◌, length, slice_get};
 ghost use Rattle.closings.specs.Inputs.{arc_count, input};
 ghost use Rattle.closings.specs.StepsClauses.{some_step, steps_adds, steps_clauses};
 ghost use Rattle.closings.specs.StepsPlaces.{StepsIn, steps_at};
@@ -50,7 +49,7 @@ fn grid(x: &Remaining) -> Grid<'_>
 
 // The place of clause k, or none past the last.
 fn find(x: &Remaining, k: u32) -> Option<Place>
-    ensures is { nth (steps_clauses (input x.now)) k ≡ option_map (steps_at (input x.now)) result }
+    ensures is { slice_get (steps_clauses (input x.now)) k ≡ option_map (steps_at (input x.now)) result }
     ensures within { IfSome result (StepsIn (input x.now)) }
 {
     let steps = step_count(x);
@@ -79,7 +78,7 @@ fn find(x: &Remaining, k: u32) -> Option<Place>
 // Literal j of the clause that has arc a, if it is chosen, have a step.
 fn some_step(x: &Remaining, a: u32, j: u32) -> Option<i32>
     requires { a < arc_count (input x.now) }
-    ensures { result ≡ nth (some_step (input x.now) a) j }
+    ensures { result ≡ slice_get (some_step (input x.now) a) j }
 {
     if j == 0 {
         return Some(x.chosen(a).negative());
@@ -105,7 +104,7 @@ impl Place {
     // Literal j of the clause that stands here.
     fn literal(self, x: &Remaining, j: u32) -> Option<i32>
         requires { StepsIn (input x.now) self }
-        ensures { result ≡ nth (steps_at (input x.now) self) j }
+        ensures { result ≡ slice_get (steps_at (input x.now) self) j }
     {
         match self {
             Place::Rises(i, k) => {

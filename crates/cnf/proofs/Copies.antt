@@ -1,12 +1,12 @@
 -- Literals copied one by one to the front of a buffer.
+use Rattle.std.specs.List.{slice_get}
 use Rattle.std.proofs.Common.{◌≡◌, ℕ, zero, suc, ◌+◌, ◌-◌, ◌<◌, ◌≤◌, List, [], ◌∷◌, ◌++◌, length, get_or, take, drop, set, unwrap_or, sym, refl, ap, ◌∙◌, arith}
-use Rattle.bounded.specs.Lists.{nth}
-use Rattle.bounded.proofs.Entries.{nth_at}
+use Rattle.std.proofs.lemmas.Option.{slice_get-get_or}
 use Rattle.std.proofs.lemmas.List.{append-nil, append_assoc, drop_all, drop_more, get_or-drop, length-drop, length-take-le, set_at, take_more}
 use Rattle.std.specs.Option.{option_map}
 
 -- the length of an entry of a list of lists, or 0, is the length of what stands there
-pub length_or_zero : {X : Type 0} (xs : List (List X)) (k : ℕ) → unwrap_or (option_map length (nth xs k)) 0 ≡ length (get_or xs k [])
+pub length_or_zero : {X : Type 0} (xs : List (List X)) (k : ℕ) → unwrap_or (option_map length (slice_get xs k)) 0 ≡ length (get_or xs k [])
 length_or_zero [] k = refl
 length_or_zero (x ∷ xs) zero = refl
 length_or_zero (x ∷ xs) (suc k) = length_or_zero xs k
@@ -25,8 +25,8 @@ copied_more c out now from i x l k e is =
     ∙ sym (append_assoc (take i (drop from c)) (x ∷ []) (drop (i + 1) out))
     ∙ ap (λ ys. ys ++ drop (i + 1) out) (sym (take_more (drop from c) i x (omega arith) ∙ ap (λ y. take i (drop from c) ++ (y ∷ [])) m))
 
-pub value_at : {X : Type 0} (xs : List X) (j : ℕ) (d e : X) → j < length xs → unwrap_or (nth xs j) d ≡ get_or xs j e
-value_at xs j d e h = ap (λ o. unwrap_or o d) (nth_at xs j e h)
+pub value_at : {X : Type 0} (xs : List X) (j : ℕ) (d e : X) → j < length xs → unwrap_or (slice_get xs j) d ≡ get_or xs j e
+value_at xs j d e h = ap (λ o. unwrap_or o d) (slice_get-get_or xs j e h)
 
 -- what is left of the places for n literals, when they are copied, is none
 pub copied_front
@@ -37,8 +37,3 @@ copied_front c out now from i n e h l =
     let k = length-take-le n out l in
     let m : i ≡ n = omega arith in
     h ∙ ap (λ xs. take i (drop from c) ++ xs) (drop_all i (take n out) (omega arith)) ∙ append-nil _ ∙ ap (λ i. take i (drop from c)) m
-
-pub copied_all
-    : {X : Type 0} (c out now : List X) (from i n : ℕ) → i ≡ n → now ≡ take i (drop from c) ++ drop i out
-    → now ≡ take n (drop from c) ++ drop n out
-copied_all c out now from i n e h = rw e at h

@@ -1,8 +1,7 @@
 // A formula means a list of clauses, and tells it: how many there are, how long each is, and each
 // literal. A question takes the formula for writing, since some formulas search as they answer, and
 // changes nothing.
-ghost use Rattle.std.specs.Prelude.{◌≡◌, ℕ, ◌+◌, ◌-◌, ◌<◌, min, List, [], ◌++◌, length, take, drop, slice_index_or};
-ghost use Rattle.bounded.specs.Lists.{nth};
+ghost use Rattle.std.specs.Prelude.{◌≡◌, ℕ, ◌+◌, ◌-◌, ◌<◌, min, List, [], ◌++◌, length, take, drop, slice_index_or, slice_get};
 ghost use Rattle.cnf.specs.Clauses.{Clause};
 ghost use Rattle.std.specs.Option.{option_map};
 
@@ -16,12 +15,12 @@ pub trait Formula {
 
     // The length of clause k, or none past the last.
     fn length(&mut self, k: u32) -> Option<u32>
-        ensures value { result ≡ option_map length (nth (clauses self.old) k) }
+        ensures value { result ≡ option_map length (slice_get (clauses self.old) k) }
         ensures same { self.new ≡ self.old };
 
     // Literal j of clause k, or none past the last of either.
     fn literal(&mut self, k: u32, j: u32) -> Option<i32>
-        ensures value { result ≡ nth (slice_index_or (clauses self.old) k []) j }
+        ensures value { result ≡ slice_get (slice_index_or (clauses self.old) k []) j }
         ensures same { self.new ≡ self.old };
 
     // Copies the literals of clause k from place `from` on to the front of `out`, as many as there

@@ -9,7 +9,7 @@ ghost use Rattle.std.specs.List.{list_any};
 use crate::formula::Formula;
 
 // Whether a literal is met by the value byte of its variable: a positive one by 1, a negative one
-// by 2.
+// by 2. (A byte and no enum: the caller's buffer holds bytes, and the question is for every byte.)
 pub fn meets(literal: i32, value: u8) -> bool
     ensures { result ≡ meets_byte literal value }
 {

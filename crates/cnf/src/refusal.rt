@@ -15,7 +15,7 @@ pub enum SinkRefusal {
 }
 
 impl SinkRefusal {
-    // The refusal's number.
+    // The refusal's number, by which texts and programs name it.
     pub fn number(&self) -> u32
         ensures { result ≡ sink_number self.now }
     {

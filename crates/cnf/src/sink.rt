@@ -30,6 +30,7 @@ pub trait Sink: Formula {
         ensures same { self.new ≡ self.old };
 
     // What a clause costs: 1 to 4,096 units, or 0 for one that is refused for its length or a literal.
+    // (A number and no option: what a sink tells of a cost is one number.)
     fn cost(&mut self, clause: &[i32]) -> u32
         ensures value { result ≡ (state self.old).cost clause.now }
         ensures most { result ≤ 4096 }

@@ -1,6 +1,7 @@
 // Writing all clauses of a formula to a sink, or none. The length of every clause is tried first,
 // then every literal, then the room against their number and what they cost together. A clause that
-// passes has at most 256 literals, so one buffer serves them all.
+// passes has at most 256 literals, so one buffer serves them all. A formula is asked by number and
+// lends no slice, so its clauses are gone over by their numbers.
 ghost use Rattle.std.specs.Prelude.{◌≡◌, ◌≤◌, false, [], ◌∷◌, ◌++◌, length, take, is_ok, if◌then◌else◌, None, OnErr, slice_index_or, sum_by};
 ghost use Rattle.cnf.specs.Clauses.{bad_length, has_bad_literal};
 ghost use Rattle.cnf.specs.Writing.{write_refusal, written};

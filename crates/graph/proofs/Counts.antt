@@ -1,5 +1,5 @@
 -- Laws of `least`, `count`, `has` and `place`.
-use Rattle.std.proofs.Common.{◌≡◌, ℕ, zero, suc, ◌+◌, ◌-◌, ◌<◌, ◌≤◌, Bool, true, false, cond, ◌||◌, eqb, ltb, List, [], ◌∷◌, ◌++◌, length, get_or, sym, refl, ap, ◌∙◌, inl, inr, add-suc, add-one, arith}
+use Rattle.std.proofs.Common.{◌≡◌, ℕ, zero, suc, ◌+◌, ◌<◌, ◌≤◌, Bool, true, false, cond, ◌||◌, eqb, ltb, List, [], ◌∷◌, ◌++◌, length, get_or, sym, refl, ap, ◌∙◌, inl, inr, add-suc, add-one, arith}
 use Rattle.std.proofs.lemmas.Bool.{cases_Bool, cases_eq, cases_lt, eqb-true}
 use Rattle.std.proofs.lemmas.Bool.Decides.{nat_tests}
 use Rattle.graph.specs.Counts.{count, has, least, place}
@@ -12,14 +12,6 @@ pub least_suc : (k : ℕ) (p : ℕ → Bool) → least (suc k) p ≡ cond (ltb (
 unfolding least
 least_suc k p = refl
 
--- none below k passes, and k does not either
-pub least_more : (k : ℕ) (p : ℕ → Bool) → least k p ≡ k → p k ≡ false → least (k + 1) p ≡ k + 1
-least_more k p h f = rw add-one (least_suc k p ∙ grind (arith, nat_tests, h, f))
-
--- none below k passes, and k does
-pub least_here : (k : ℕ) (p : ℕ → Bool) → least k p ≡ k → p k ≡ true → least (k + 1) p ≡ k
-least_here k p h t = rw add-one (least_suc k p ∙ grind (arith, nat_tests, h, t))
-
 pub least_le : (n : ℕ) (p : ℕ → Bool) → least n p ≤ n
 least_le zero p = rw (least_zero p) (omega arith)
 least_le (suc k) p = let h = least_le k p in rw (least_suc k p) (grind (arith, nat_tests))
@@ -29,13 +21,6 @@ pub least_stays : (k d : ℕ) (p : ℕ → Bool) → least k p < k → least (k 
 least_stays k zero p h = ap (λ x. least x p) (omega arith)
 least_stays k (suc d) p h =
     let i = least_stays k d p h in rw add-suc (least_suc (k + d) p ∙ grind (arith, nat_tests, i))
-
--- the first number that passes is found below any bound above it
-pub least_found : (k n : ℕ) (p : ℕ → Bool) → least k p ≡ k → p k ≡ true → k < n → least n p ≡ k
-least_found k n p h t l =
-    let f = least_here k p h t in
-    let s = least_stays (k + 1) (n - (k + 1)) p (omega (arith, f)) in
-    let e : (k + 1) + (n - (k + 1)) ≡ n = omega arith in ap (λ x. least x p) (sym e) ∙ s ∙ f
 
 -- a number that is found passes
 pub least_passes : (n : ℕ) (p : ℕ → Bool) → least n p < n → p (least n p) ≡ true
@@ -70,10 +55,6 @@ least_same zero p q h = least_zero p ∙ sym (least_zero q)
 least_same (suc k) p q h =
     let i = least_same k p q (λ j l. h j (omega arith)) in
     let e = h k (omega arith) in least_suc k p ∙ (rw (i, e) (sym (least_suc k q)))
-
--- none below k passes, and k is the bound
-pub least_end : (k n : ℕ) (p : ℕ → Bool) → least k p ≡ k → k ≤ n → n ≤ k → n ≡ least n p
-least_end k n p h a b = let e : k ≡ n = omega arith in sym (ap (λ x. least x p) (sym e) ∙ h ∙ e)
 
 pub count_zero : (p : ℕ → Bool) → count 0 p ≡ 0
 unfolding count

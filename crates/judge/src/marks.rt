@@ -3,7 +3,8 @@
 ghost use Rattle.std.specs.Prelude.{◌≡◌, length, replicate};
 ghost use Rattle.judge.specs.Marks.{unmarked};
 
-// Mark bytes that are lent: all are zero once the guard is gone.
+// Mark bytes that are lent: all are zero once the guard is gone. (Placing and walking take the bytes
+// and not the guard, whose loan each of their contracts would have to keep by name.)
 pub(crate) struct Marks<'a> {
     pub(crate) bytes: &'a mut [u8],
 }

@@ -23,8 +23,8 @@ fn in_degrees<G: Digraph>(g: &G) -> [usize; 64]
     ensures { (w : ℕ) → w < G.Digraph.size g.now → slice_index result w ≡ count (G.Digraph.size g.now) (λ u. G.Digraph.edges g.now u w) }
 {
     let mut degrees = [0; 64];
-    for w in 0..g.nodes() {
-        degrees[w as usize] = in_degree(g, w);
+    for (w, degree) in degrees[..g.nodes() as usize].iter_mut().enumerate() {
+        *degree = in_degree(g, w as u32);
     }
     degrees
 }
@@ -40,15 +40,15 @@ fn next_node<G: Digraph>(g: &G, degrees: &[usize; 64], marks: &[u8]) -> Option<u
 fn release<G: Digraph>(g: &G, v: u32, degrees: &mut [usize; 64])
     ensures { (w : ℕ) → w < G.Digraph.size g.now → slice_index degrees.new w ≡ slice_index degrees.old w - (if G.Digraph.edges g.now v w then 1 else 0) }
 {
-    for w in 0..g.nodes() {
-        if g.leads(v, w) {
-            degrees[w as usize] = degrees[w as usize].saturating_sub(1);
+    for (w, degree) in degrees[..g.nodes() as usize].iter_mut().enumerate() {
+        if g.leads(v, w as u32) {
+            *degree = degree.saturating_sub(1);
         }
     }
 }
 
 // Places every node that can be placed, and marks it: the nodes in their order, which lie in the
-// first places of `order`.
+// first places of `order`. (The count is more than an index: it says how many are handed out.)
 pub(crate) fn place_nodes<'o, G: Digraph>(
     g: &G,
     marks: &mut [u8],

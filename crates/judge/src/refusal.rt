@@ -15,7 +15,7 @@ pub enum VerdictRefusal {
 }
 
 impl VerdictRefusal {
-    // The refusal's number.
+    // The refusal's number, by which texts and programs name it.
     pub fn number(&self) -> u32
         ensures { result ≡ verdict_number self.now }
     {

@@ -1,6 +1,6 @@
 // Finding a ring among the nodes that cannot be placed: every one of them has an edge from another,
 // so a walk back along such edges comes to a node twice. The walk is written from the end of `path`
-// to its front, so that it lies in the direction of the edges.
+// to its front, so that it lies in the direction of the edges, and no iterator runs along it.
 ghost use Rattle.std.specs.Prelude.{◌≡◌, ℕ, ◌<◌, ◌≤◌, ◌&&◌, true, false, length, MatchOption, ◌==◌, slice_index};
 ghost use Rattle.judge.specs.First.{first_below};
 ghost use Rattle.judge.specs.Marks.{unmarked};

@@ -1,6 +1,6 @@
 -- The clauses at a list of pairs, told one by one, and the literals of an implication.
+use Rattle.std.specs.List.{slice_get}
 use Rattle.std.proofs.Common.{◌≡◌, ℕ, zero, suc, ◌+◌, ◌<◌, List, [], ◌∷◌, ◌++◌, map, length, get_or, pos, Some, sym, refl, ap, ◌∙◌, arith}
-use Rattle.bounded.specs.Lists.{nth}
 use Rattle.cnf.specs.Clauses.{Clause, minus}
 use Rattle.std.proofs.lemmas.List.{length-map}
 use Rattle.std.proofs.lemmas.Bool.{ne_eqb}
@@ -20,16 +20,16 @@ pub entry_there : (x : ℕ) → 0 < x → entry x ≡ Some x
 entry_there x h = rw (ne_eqb x 0 (λ e. omega arith)) refl
 
 -- behind another list
-nth_behind : {X : Type 0} (xs ys : List X) (j : ℕ) → nth (xs ++ ys) (length xs + j) ≡ nth ys j
-nth_behind [] ys j = ap (nth ys) (omega arith)
+nth_behind : {X : Type 0} (xs ys : List X) (j : ℕ) → slice_get (xs ++ ys) (length xs + j) ≡ slice_get ys j
+nth_behind [] ys j = ap (slice_get ys) (omega arith)
 nth_behind (x ∷ xs) ys j =
-    let e : suc (length xs) + j ≡ suc (length xs + j) = omega arith in ap (nth (x ∷ (xs ++ ys))) e ∙ nth_behind xs ys j
+    let e : suc (length xs) + j ≡ suc (length xs + j) = omega arith in ap (slice_get (x ∷ (xs ++ ys))) e ∙ nth_behind xs ys j
 
 module _ (vs : List ℕ) (t : Table) (u w : ℕ) where
   -- behind the premises of a pair of two nodes comes the arc
-  pub arc_told : (j : ℕ) → (u ≡ w → ⊥) → j ≡ length vs → Some (pos (t u w)) ≡ nth (implication vs t (u, w)) j
+  pub arc_told : (j : ℕ) → (u ≡ w → ⊥) → j ≡ length vs → Some (pos (t u w)) ≡ slice_get (implication vs t (u, w)) j
   arc_told j d e =
       rw (ne_eqb u w d)
       (let h = length-map vs minus in
       let i : j ≡ length (map minus vs) + 0 = omega arith in
-      sym (ap (nth (map minus vs ++ (pos (t u w) ∷ []))) i ∙ nth_behind (map minus vs) (pos (t u w) ∷ []) 0))
+      sym (ap (slice_get (map minus vs ++ (pos (t u w) ∷ []))) i ∙ nth_behind (map minus vs) (pos (t u w) ∷ []) 0))

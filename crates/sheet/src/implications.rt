@@ -2,8 +2,8 @@
 // the clause that the premises imply the arc of the pair. The pairs and the arcs are planned over a
 // copy of the arcs first, so that a sink that cannot take all the clauses leaves the sheet as it
 // was.
-ghost use Rattle.std.specs.Prelude.{◌≡◌, ℕ, ◌+◌, ◌^◌, ◌<◌, ◌≤◌, true, List, [], map, length, is_some, IfOk, IfSome, OnErr};
-ghost use Rattle.bounded.specs.Lists.{entries, nth, room};
+ghost use Rattle.std.specs.Prelude.{◌≡◌, ℕ, ◌+◌, ◌^◌, ◌<◌, ◌≤◌, true, List, [], map, length, is_some, IfOk, IfSome, OnErr, slice_get};
+ghost use Rattle.bounded.specs.Lists.{entries, room};
 ghost use Rattle.cnf.specs.Writing.{write_refusal};
 ghost use Rattle.sheet.specs.Implications.{are_there, has_arc, has_premises, implication, implications, pairs_with, planned};
 ghost use Rattle.sheet.specs.Plans.{Small, arcs_in, listed};
@@ -21,7 +21,8 @@ use cnf::refusal::SinkRefusal;
 use cnf::sink::Sink;
 use cnf::writing::write_all;
 
-// The premises of a clause: one variable or two.
+// The premises of a clause: one variable or two. (Not `[u32; N]`: each call of a rule would then owe
+// that N numbers fit in memory.)
 #[derive(Clone, Copy)]
 pub(crate) enum Body {
     One(u32),
@@ -41,7 +42,7 @@ impl Body {
 
     // Premise j, or none past the last.
     fn premise(self, j: u32) -> Option<u32>
-        ensures { result ≡ nth (listed self) j }
+        ensures { result ≡ slice_get (listed self) j }
     {
         match (self, j) {
             (Body::One(v) | Body::Two(v, _), 0) => Some(v),
@@ -74,6 +75,7 @@ fn plan<R: Rule>(rule: &R, nodes: u32, arcs: &mut Arcs, pairs: &mut Bounded<'_, 
     ensures next { arcs.new.next ≤ arcs.old.next + 4096 }
     ensures few { length (entries pairs.new) ≤ 4096 }
 {
+    // the i-th pair, ascending
     for i in 0..nodes * nodes {
         let (u, w) = (i / nodes, i % nodes);
         if rule.body(u, w).is_some() {

@@ -43,6 +43,7 @@ impl PairTable {
         requires { v < 64 }
         ensures { table self.new.numbers ≡ without v (table self.old.numbers) }
     {
+        // k is a node: its pair with v stands in v's row, and in its own
         for k in 0..64 {
             self.set(v, k, 0);
             self.set(k, v, 0);

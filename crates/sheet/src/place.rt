@@ -8,7 +8,8 @@ use crate::arcs::Arcs;
 use crate::pair_table::PairTable;
 pub use crate::phase::Phase;
 
-// A sheet of nodes, numbered from 0, and valves, numbered from 1.
+// A sheet of nodes, numbered from 0, and valves, numbered from 1. (Contracts name its view, and it has
+// no `Model`: a call that is refused leaves the same sheet in memory, which no clause on models says.)
 #[derive(Drop)]
 pub struct Sheet {
     // what its caller called it

@@ -41,7 +41,7 @@ pub enum SheetRefusal {
 }
 
 impl SheetRefusal {
-    // The refusal's number.
+    // The refusal's number, by which texts and programs name it.
     pub fn number(&self) -> u32
         ensures { result ≡ sheet_number self.now }
     {
@@ -96,7 +96,8 @@ impl From<SinkRefusal> for SheetRefusal {
     }
 }
 
-// A refusal with the token that comes back.
+// A refusal with the token that comes back. A refusal climbs by `?` within, where there is no token,
+// and the token joins it outside; so a call and the function within have the same clauses.
 #[derive(Drop)]
 pub struct Refused<T> {
     pub token: T,

@@ -1,6 +1,6 @@
 -- Laws of a guard: a clause with its literal at the end is taken below, and is read back without it.
+use Rattle.std.specs.List.{slice_get}
 use Rattle.std.proofs.Common.{◌≡◌, ℕ, zero, suc, ◌+◌, ◌-◌, ◌<◌, ◌≤◌, Bool, true, false, cond, ◌||◌, eqb, ltb, [], ◌∷◌, ◌++◌, length, ℤ, None, refl, ap, ◌∙◌, arith, length-append}
-use Rattle.bounded.specs.Lists.{nth}
 use Rattle.cnf.specs.Clauses.{Clause, bad_length, bad_literal, has_bad_literal}
 use Rattle.cnf.specs.States.{form_refusal, without_last}
 use Rattle.sinks.specs.Layers.{guard_longest}
@@ -13,7 +13,7 @@ length_without_last [] = refl
 length_without_last (z ∷ []) = refl
 length_without_last (z ∷ (y ∷ ys)) = omega (arith, length_without_last (y ∷ ys))
 
-pub nth_without_last : (c : Clause) (j : ℕ) → j < length c - 1 → nth (without_last c) j ≡ nth c j
+pub nth_without_last : (c : Clause) (j : ℕ) → j < length c - 1 → slice_get (without_last c) j ≡ slice_get c j
 nth_without_last [] j h = refl
 nth_without_last (z ∷ []) j h = absurd (omega arith)
 nth_without_last (z ∷ (y ∷ ys)) zero h = refl

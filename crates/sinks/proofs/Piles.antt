@@ -1,8 +1,8 @@
 -- Laws of layers: how their clauses are read, and that a clause which one takes is taken below as it is stored there, at the same
 -- cost and with the same answer, and is read back unchanged.
+use Rattle.std.specs.List.{slice_get}
 use Rattle.std.proofs.Common.{◌≡◌, ℕ, zero, suc, ◌-◌, ◌<◌, ◌≤◌, Bool, true, false, cond, List, [], ◌∷◌, ◌++◌, map, length, get_or, drop, Some, None, Option, unwrap_or, sym, refl, ap, ◌∙◌, arith}
 use Rattle.std.proofs.Math.ListN.{get_or-map}
-use Rattle.bounded.specs.Lists.{nth}
 use Rattle.std.proofs.lemmas.Option.{slice_get-map, slice_get_past}
 use Rattle.cnf.proofs.Copies.{length_or_zero}
 use Rattle.cnf.specs.Clauses.{Clause}
@@ -43,21 +43,21 @@ length_read (guard g) c = length_without_last c
 length_read (offset d) c = length-map c (lowered d)
 
 pub lengths_read
-    : (l : Layer) (cs : List Clause) (k : ℕ) → option_map length (nth (map (read_by l) cs) k) ≡ option_map (shown l) (option_map length (nth cs k))
+    : (l : Layer) (cs : List Clause) (k : ℕ) → option_map length (slice_get (map (read_by l) cs) k) ≡ option_map (shown l) (option_map length (slice_get cs k))
 lengths_read l [] k = refl
 lengths_read l (c ∷ cs) zero = ap Some (length_read l c)
 lengths_read l (c ∷ cs) (suc k) = lengths_read l cs k
 
-nth_read : (l : Layer) (c : Clause) (j : ℕ) → j < length (read_by l c) → nth (read_by l c) j ≡ option_map (read_literal l) (nth c j)
-nth_read (guard g) c j h = nth_without_last c j (omega (arith, length_without_last c, h)) ∙ sym (option_map_id (nth c j))
+nth_read : (l : Layer) (c : Clause) (j : ℕ) → j < length (read_by l c) → slice_get (read_by l c) j ≡ option_map (read_literal l) (slice_get c j)
+nth_read (guard g) c j h = nth_without_last c j (omega (arith, length_without_last c, h)) ∙ sym (option_map_id (slice_get c j))
 nth_read (offset d) c j h = slice_get-map (lowered d) c j
 
 pub literal_read
     : (l : Layer) (cs : List Clause) (k j : ℕ) → j < length (get_or (map (read_by l) cs) k [])
-    → nth (get_or (map (read_by l) cs) k []) j ≡ option_map (read_literal l) (nth (get_or cs k []) j)
+    → slice_get (get_or (map (read_by l) cs) k []) j ≡ option_map (read_literal l) (slice_get (get_or cs k []) j)
 literal_read l cs k j h =
     let e = read_at l cs k in
-    ap (λ c. nth c j) e ∙ nth_read l (get_or cs k []) j (omega (arith, ap length e, h))
+    ap (λ c. slice_get c j) e ∙ nth_read l (get_or cs k []) j (omega (arith, ap length e, h))
 
 -- a clause that a layer takes is taken below, and is read back unchanged
 pub taken_below
@@ -113,10 +113,10 @@ module _ (l : Layer) (s : State) (c : Clause) (fine : form_refusal (layer_top l 
 
 -- a literal that is asked for, by how many the clause at its place is told to have
 pub literal_told
-    : (l : Layer) (cs : List Clause) (k j : ℕ) → j < unwrap_or (option_map length (nth (map (read_by l) cs) k)) 0
-    → nth (get_or (map (read_by l) cs) k []) j ≡ option_map (read_literal l) (nth (get_or cs k []) j)
+    : (l : Layer) (cs : List Clause) (k j : ℕ) → j < unwrap_or (option_map length (slice_get (map (read_by l) cs) k)) 0
+    → slice_get (get_or (map (read_by l) cs) k []) j ≡ option_map (read_literal l) (slice_get (get_or cs k []) j)
 literal_told l cs k j h = literal_read l cs k j (omega (arith, length_or_zero (map (read_by l) cs) k, h))
 
 pub literal_untold
-    : (cs : List Clause) (k j : ℕ) → unwrap_or (option_map length (nth cs k)) 0 ≤ j → nth (get_or cs k []) j ≡ None
+    : (cs : List Clause) (k j : ℕ) → unwrap_or (option_map length (slice_get cs k)) 0 ≤ j → slice_get (get_or cs k []) j ≡ None
 literal_untold cs k j h = slice_get_past (get_or cs k []) j (omega (arith, length_or_zero cs k, h))

@@ -1,10 +1,10 @@
 -- Laws of clauses that lie one behind the other.
+use Rattle.std.specs.List.{slice_get}
 use Rattle.std.proofs.Common.{◌≡◌, ℕ, zero, suc, ◌+◌, ◌-◌, ◌<◌, ◌≤◌, min, List, [], ◌∷◌, ◌++◌, map, length, get_or, take, drop, set, Some, None, unwrap_or, sym, refl, ap, ◌∙◌, zero-add, arith, length-append, length-drop, length-take}
 use Rattle.std.proofs.lemmas.List.{append-nil, append_assoc, drop-drop, drop-set-lt, drop_at, length-set, length-take-le, map-id, take_at, take_more_set}
 use Rattle.std.proofs.lemmas.List.Concat.{flat_map-append}
 use Rattle.std.proofs.lemmas.Option.{slice_get-map, slice_get_past, unwrap_or-slice_get}
 use Rattle.std.specs.Option.{option_map}
-use Rattle.bounded.specs.Lists.{nth}
 use Rattle.cnf.specs.Clauses.{Clause}
 use Rattle.cnf.specs.States.{added, form_refusal, read_as}
 use Rattle.sinks.specs.Table.{LaidOut, behind, cut, joined, laid, part, table_cost, table_state}
@@ -64,51 +64,51 @@ module _ {ps : List (ℕ × ℕ)} {xs : Clause} (laid_out : LaidOut ps xs) where
     laid_out_more qs ys e f = rw (e, f) laid_out_push
 
   -- the lengths are told
-  pub lengths_told : (k : ℕ) → option_map length (nth (cut ps xs) k) ≡ option_map (λ (p : ℕ × ℕ). p.1) (nth ps k)
+  pub lengths_told : (k : ℕ) → option_map length (slice_get (cut ps xs) k) ≡ option_map (λ (p : ℕ × ℕ). p.1) (slice_get ps k)
   lengths_told k =
-      sym (told 0 (cut ps xs) k) ∙ ap (λ qs. option_map (λ (p : ℕ × ℕ). p.1) (nth qs k)) (sym laid_out.pairs_are)
+      sym (told 0 (cut ps xs) k) ∙ ap (λ qs. option_map (λ (p : ℕ × ℕ). p.1) (slice_get qs k)) (sym laid_out.pairs_are)
     where
       told
           : (at : ℕ) (cs : List Clause) (k : ℕ)
-          → option_map (λ (p : ℕ × ℕ). p.1) (nth (laid at (map length cs)) k) ≡ option_map length (nth cs k)
+          → option_map (λ (p : ℕ × ℕ). p.1) (slice_get (laid at (map length cs)) k) ≡ option_map length (slice_get cs k)
       told at [] k = refl
       told at (c ∷ cs) zero = refl
       told at (c ∷ cs) (suc k) = told (at + length c) cs k
 
 -- a literal of a part
-nth_take : {X : Type 0} (n j : ℕ) (xs : List X) → j < n → nth (take n xs) j ≡ nth xs j
+nth_take : {X : Type 0} (n j : ℕ) (xs : List X) → j < n → slice_get (take n xs) j ≡ slice_get xs j
 nth_take zero j xs h = absurd (omega arith)
 nth_take (suc n) j [] h = refl
 nth_take (suc n) zero (x ∷ xs) h = refl
 nth_take (suc n) (suc j) (x ∷ xs) h = nth_take n j xs (omega arith)
 
-nth_drop : {X : Type 0} (at j : ℕ) (xs : List X) → nth (drop at xs) j ≡ nth xs (at + j)
-nth_drop zero j xs = ap (nth xs) (sym (zero-add j))
+nth_drop : {X : Type 0} (at j : ℕ) (xs : List X) → slice_get (drop at xs) j ≡ slice_get xs (at + j)
+nth_drop zero j xs = ap (slice_get xs) (sym (zero-add j))
 nth_drop (suc at) j [] = refl
 nth_drop (suc at) j (x ∷ xs) =
     let e : suc (at + j) ≡ suc at + j = omega arith in
-    nth_drop at j xs ∙ ap (nth (x ∷ xs)) e
+    nth_drop at j xs ∙ ap (slice_get (x ∷ xs)) e
 
 -- the clause of a pair, and its literals
-clause_at : (ps : List (ℕ × ℕ)) (xs : Clause) (k : ℕ) → get_or (cut ps xs) k [] ≡ unwrap_or (option_map (part xs) (nth ps k)) []
+clause_at : (ps : List (ℕ × ℕ)) (xs : Clause) (k : ℕ) → get_or (cut ps xs) k [] ≡ unwrap_or (option_map (part xs) (slice_get ps k)) []
 clause_at ps xs k =
     sym (unwrap_or-slice_get (cut ps xs) k []) ∙ ap (λ o. unwrap_or o []) (slice_get-map (part xs) ps k)
 
-pub no_clause : (ps : List (ℕ × ℕ)) (xs : Clause) (k j : ℕ) → nth ps k ≡ None → nth (get_or (cut ps xs) k []) j ≡ None
+pub no_clause : (ps : List (ℕ × ℕ)) (xs : Clause) (k j : ℕ) → slice_get ps k ≡ None → slice_get (get_or (cut ps xs) k []) j ≡ None
 no_clause ps xs k j e =
-    ap (λ c. nth c j) (clause_at ps xs k ∙ ap (λ o. unwrap_or (option_map (part xs) o) []) e)
+    ap (λ c. slice_get c j) (clause_at ps xs k ∙ ap (λ o. unwrap_or (option_map (part xs) o) []) e)
 
 pub no_literal
-    : (ps : List (ℕ × ℕ)) (xs : Clause) (k j at n : ℕ) → nth ps k ≡ Some (at, n) → n ≤ j → nth (get_or (cut ps xs) k []) j ≡ None
+    : (ps : List (ℕ × ℕ)) (xs : Clause) (k j at n : ℕ) → slice_get ps k ≡ Some (at, n) → n ≤ j → slice_get (get_or (cut ps xs) k []) j ≡ None
 no_literal ps xs k j at n e h =
-    ap (λ c. nth c j) (clause_at ps xs k ∙ ap (λ o. unwrap_or (option_map (part xs) o) []) e)
+    ap (λ c. slice_get c j) (clause_at ps xs k ∙ ap (λ o. unwrap_or (option_map (part xs) o) []) e)
     ∙ slice_get_past (part xs (at, n)) j (simp length-take (omega arith))
 
 pub literal_at
-    : (ps : List (ℕ × ℕ)) (xs : Clause) (k j at n : ℕ) → nth ps k ≡ Some (at, n) → j < n
-    → nth (get_or (cut ps xs) k []) j ≡ nth xs (at + j)
+    : (ps : List (ℕ × ℕ)) (xs : Clause) (k j at n : ℕ) → slice_get ps k ≡ Some (at, n) → j < n
+    → slice_get (get_or (cut ps xs) k []) j ≡ slice_get xs (at + j)
 literal_at ps xs k j at n e h =
-    ap (λ c. nth c j) (clause_at ps xs k ∙ ap (λ o. unwrap_or (option_map (part xs) o) []) e) ∙ nth_take n j (drop at xs) h
+    ap (λ c. slice_get c j) (clause_at ps xs k ∙ ap (λ o. unwrap_or (option_map (part xs) o) []) e) ∙ nth_take n j (drop at xs) h
     ∙ nth_drop at j xs
 
 -- a clause stored behind the first u literals

@@ -10,7 +10,7 @@ use cnf::formula::Formula;
 use cnf::refusal::SinkRefusal;
 use cnf::sink::Sink;
 
-pub trait Layer: Copy {
+pub(crate) trait Layer: Copy {
     // what it is in a state
     ghost layer: { Self → Layer };
 

@@ -1,11 +1,11 @@
 // A table of clauses in two lent buffers: their literals one behind the other, and for each clause
 // its offset and its length. Every question is answered in constant time.
-ghost use Rattle.std.specs.Prelude.{◌≡◌, ◌+◌, ◌-◌, ◌<◌, ◌≤◌, min, [], ◌∷◌, ◌++◌, length, take, is_ok, if◌then◌else◌, OnErr, OnOk, slice_set};
-ghost use Rattle.bounded.specs.Lists.{nth};
+ghost use Rattle.std.specs.Prelude.{◌≡◌, ◌+◌, ◌-◌, ◌<◌, ◌≤◌, min, [], ◌∷◌, ◌++◌, length, take, is_ok, if◌then◌else◌, OnErr, OnOk, slice_set, slice_get};
 ghost use Rattle.cnf.specs.States.{add_refusal, added};
 ghost use Rattle.sinks.specs.Table.{LaidOut, behind, cut, table_state};
 ghost use Rattle.std.specs.Result.{result_err};
 
+use bounded::Bounded;
 use cnf::form::check_form;
 use cnf::formula::Formula;
 use cnf::refusal::SinkRefusal;
@@ -39,6 +39,15 @@ fn store(literals: &mut [i32], at: usize, clause: &[i32])
     literals[at..at + n].copy_from_slice(clause);
 }
 
+// Lists one pair more behind the first `count`: the one bounded list, taken up again over the pairs.
+fn list_pair(pairs: &mut [(u32, u32)], count: usize, pair: (u32, u32))
+    requires { count < length pairs.old }
+    ensures { pairs.new ≡ slice_set pairs.old count pair }
+{
+    let mut list = Bounded::resume(pairs, count);
+    list.push(pair).unwrap();
+}
+
 impl<'a> TableSink<'a> {
     // An empty table in these buffers.
     pub fn new(literals: &'a mut [i32], pairs: &'a mut [(u32, u32)]) -> TableSink<'a>
@@ -55,7 +64,7 @@ impl<'a> TableSink<'a> {
 
     // Pair k, or none past the last in use.
     fn pair(&self, k: u32) -> Option<(u32, u32)>
-        ensures { result ≡ nth (take self.now.count self.now.pairs.now) k }
+        ensures { result ≡ slice_get (take self.now.count self.now.pairs.now) k }
     {
         self.pairs[..self.count].get(k as usize).copied()
     }
@@ -95,7 +104,8 @@ impl<'a> TableSink<'a> {
             return Err(SinkRefusal::Room);
         }
         store(self.literals, self.used, clause);
-        self.pairs[self.count] = (self.used as u32, clause.len() as u32);
+        let pair = (self.used as u32, clause.len() as u32);
+        list_pair(self.pairs, self.count, pair);
         self.used += clause.len();
         self.count += 1;
         Ok(())

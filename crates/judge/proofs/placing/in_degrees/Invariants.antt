@@ -1,8 +1,7 @@
-use Rattle.std.proofs.Common.{◌≡◌, ℕ, ◌<◌, length, get_or}
+use Rattle.std.proofs.Common.{◌≡◌, ℕ, ◌<◌, get_or}
 use Rattle.graph.specs.Counts.{count}
 use Rattle.judge.proofs.placing.in_degrees.Given as goal
 
 abbrev pub invariant-loop-w : goal.invariant-loop-w
 invariant-loop-w g l =
-    (length l.degrees ≡ 64)
-    × ((k : ℕ) → k < l.w → get_or l.degrees k 0 ≡ count (g.G.Digraph.size l.g) (λ u. g.G.Digraph.edges l.g u k))
+    (k : ℕ) → k < l.w → get_or l.degree-items k 0 ≡ count (g.G.Digraph.size l.g) (λ u. g.G.Digraph.edges l.g u k)

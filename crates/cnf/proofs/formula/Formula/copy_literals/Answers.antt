@@ -1,5 +1,5 @@
+use Rattle.std.specs.List.{slice_get}
 use Rattle.std.proofs.Common.{◌≡◌, ◌+◌, ◌-◌, ◌<◌, min, [], ◌++◌, length, get_or, take, drop, pos, unwrap_or, ap, ◌∙◌, arith, w32, SFits, rules, length-take}
-use Rattle.bounded.specs.Lists.{nth}
 use Rattle.std.proofs.lemmas.Int.{to_z-of_z}
 use Rattle.cnf.proofs.Copies.{copied_front, copied_more, length_or_zero, value_at}
 use Rattle.cnf.proofs.formula.Formula.copy_literals.Given as given
@@ -24,7 +24,7 @@ loop-i-preserved g c =
     let within : c.args.from + c.loop-i.i < length (get_or (g.Self.Formula.clauses c.length.new.self) c.args.k []) =
     omega (arith, count, len, places, c.min-n.ensures, c.loop-i-test.true) in
     let fits : SFits w32 c.unwrap_or-in-loop-i.result = search rules in
-    let told = c.literal.ensures.value ∙ ap (λ s. nth (get_or (g.Self.Formula.clauses s) c.args.k []) (c.args.from + c.loop-i.i)) c.loop-i.invariant.0 in
+    let told = c.literal.ensures.value ∙ ap (λ s. slice_get (get_or (g.Self.Formula.clauses s) c.args.k []) (c.args.from + c.loop-i.i)) c.loop-i.invariant.0 in
     let is = to_z-of_z w32 _ fits ∙ c.unwrap_or-in-loop-i.ensures ∙ ap (λ o. unwrap_or o (pos 0)) told ∙ value_at cl _ (pos 0) _ within in (
       c.literal.ensures.same ∙ c.loop-i.invariant.0,
       copied_more cl (take c.min-n.result c.args.out.now) c.loop-i.place-items c.args.from c.loop-i.i _ (omega arith)

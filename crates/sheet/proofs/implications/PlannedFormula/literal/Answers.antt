@@ -1,5 +1,5 @@
+use Rattle.std.specs.List.{slice_get}
 use Rattle.std.proofs.Common.{◌≡◌, ◌<◌, length, pos, Some, sym, ap, ◌∙◌, arith, w32}
-use Rattle.bounded.specs.Lists.{nth}
 use Rattle.std.proofs.lemmas.Int.{to_z_pos}
 use Rattle.std.proofs.lemmas.Bool.{ltb-true}
 use Rattle.sheet.specs.Tables.{table}
@@ -36,4 +36,4 @@ returns-clause-value g c =
     ap Some (to_z_pos w32 _ (omega (arith, v, s.arcs_small p.0 p.1)) ∙ ap pos v)
     ∙ arc_told (g.R.Rule.premises s.rule.now p.0 p.1) (table s.arcs.now.variables.numbers) p.0 p.1 c.args.j c.if-u-w.false
     (c.if-j-len.false ∙ c.len.ensures ∙ ap length c.in_ok-body.ensures.value)
-    ∙ ap (λ l. nth l c.args.j) (sym told)
+    ∙ ap (λ l. slice_get l c.args.j) (sym told)
