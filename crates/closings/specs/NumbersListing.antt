@@ -13,7 +13,7 @@ use Rattle.std.proofs.lemmas.Bool.{cases_lt}
 use Rattle.closings.specs.Inputs.{Input, Lawful, arc_count}
 use Rattle.closings.specs.NumbersClauses.{all_rise, bit_rises, low_enters, low_leaves, rest_enters, rest_leaves}
 use Rattle.closings.specs.NumbersClauses.{bits_for, numbers_clauses, numbers_of_arc}
-use Rattle.closings.specs.NumbersPlaces.{numbers_at}
+use Rattle.closings.specs.NumbersPlaces.{NumbersIn, numbers_at}
 use Rattle.closings.specs.Ranges.{each}
 use Rattle.closings.specs.declared.numbers.Place.{Place}
 use Rattle.closings.specs.declared.numbers.Place.TheVariants.{AllRise, BitRises, LowEnters, LowLeaves}
@@ -98,11 +98,14 @@ module _ (x : Input) where
               | inr s ↦ s
             ]
 
--- the clause at the place that is found
-abbrev Found : Input → ℕ → Place → Type 0
-Found x k p = slice_get (numbers_clauses x) k ≡ Some (numbers_at x p)
+-- p is the place of clause k
+abbrev pub Found : Input → ℕ → Place → Type 0
+Found x k p = record {
+  is : slice_get (numbers_clauses x) k ≡ Some (numbers_at x p);
+  within : NumbersIn x p;
+}
 
-module _ (x : Input) (k q : ℕ) (e : q ≡ bits_for x.nodes - 1) where
+module _ (x : Input) (law : Lawful x) (k q : ℕ) (e : q ≡ bits_for x.nodes - 1) where
   pub none_past : arc_count x ≤ k / (q * 3 + 3) → slice_get (numbers_clauses x) k ≡ None
   none_past h = clause_past x k (q * 3 + 3) (omega arith) h
 
@@ -110,19 +113,24 @@ module _ (x : Input) (k q : ℕ) (e : q ≡ bits_for x.nodes - 1) where
     here : slice_get (numbers_clauses x) k ≡ slice_get (numbers_of_arc x (k / (q * 3 + 3))) (k % (q * 3 + 3))
     here = clause_of_arc x k (q * 3 + 3) (omega arith) h
 
+    bit : 1 ≤ bits_for x.nodes
+    bit = some_bit x law _ h
+
     pub found_low_leaves : k % (q * 3 + 3) ≡ 0 → Found x k (LowLeaves (k / (q * 3 + 3)))
-    found_low_leaves z = here ∙ ap (slice_get (numbers_of_arc x (k / (q * 3 + 3)))) z
+    found_low_leaves z = record { is = here ∙ ap (slice_get (numbers_of_arc x (k / (q * 3 + 3)))) z; within = (h, bit) }
 
     pub found_low_enters : k % (q * 3 + 3) ≡ 1 → Found x k (LowEnters (k / (q * 3 + 3)))
-    found_low_enters z = here ∙ ap (slice_get (numbers_of_arc x (k / (q * 3 + 3)))) z
+    found_low_enters z = record { is = here ∙ ap (slice_get (numbers_of_arc x (k / (q * 3 + 3)))) z; within = (h, bit) }
 
     module _ (n0 : k % (q * 3 + 3) ≡ 0 → ⊥) (n1 : k % (q * 3 + 3) ≡ 1 → ⊥) where
       pub found_all_rise : q * 3 ≤ k % (q * 3 + 3) - 2 → Found x k (AllRise (k / (q * 3 + 3)))
       found_all_rise l =
           let low = mod_below k (q * 3 + 3) (omega arith) in
-          here
-          ∙ last_clause x (k / (q * 3 + 3)) (k % (q * 3 + 3)) (k % (q * 3 + 3) - 2)
-          (omega (arith, n0, n1)) (omega (arith, n0, n1))
+          record {
+            is = here ∙ last_clause x (k / (q * 3 + 3)) (k % (q * 3 + 3)) (k % (q * 3 + 3) - 2)
+                (omega (arith, n0, n1)) (omega (arith, n0, n1));
+            within = (h, bit);
+          }
 
       module _ (l : k % (q * 3 + 3) - 2 < q * 3) where
         inner
@@ -133,18 +141,21 @@ module _ (x : Input) (k q : ℕ) (e : q ≡ bits_for x.nodes - 1) where
             ∙ bit_clause x (k / (q * 3 + 3)) (k % (q * 3 + 3)) (k % (q * 3 + 3) - 2) (omega (arith, n0, n1)) (omega arith)
             ∙ ap (slice_get (of_bit x (k / (q * 3 + 3)) ((k % (q * 3 + 3) - 2) / 3))) z
 
+        low : (k % (q * 3 + 3) - 2) / 3 + 2 ≤ bits_for x.nodes
+        low = omega arith
+
         pub found_bit_rises
             : (k % (q * 3 + 3) - 2) % 3 ≡ 0 → Found x k (BitRises (k / (q * 3 + 3)) ((k % (q * 3 + 3) - 2) / 3 + 2))
         unfolding of_bit
-        found_bit_rises z = inner 0 z
+        found_bit_rises z = record { is = inner 0 z; within = (h, omega arith, low) }
 
         pub found_rest_leaves
             : (k % (q * 3 + 3) - 2) % 3 ≡ 1 → Found x k (RestLeaves (k / (q * 3 + 3)) ((k % (q * 3 + 3) - 2) / 3 + 2))
         unfolding of_bit
-        found_rest_leaves z = inner 1 z
+        found_rest_leaves z = record { is = inner 1 z; within = (h, omega arith, low) }
 
         pub found_rest_enters
             : ((k % (q * 3 + 3) - 2) % 3 ≢ 0) → ((k % (q * 3 + 3) - 2) % 3 ≢ 1)
             → Found x k (RestEnters (k / (q * 3 + 3)) ((k % (q * 3 + 3) - 2) / 3 + 2))
         unfolding of_bit
-        found_rest_enters n z = inner 2 (omega arith)
+        found_rest_enters n z = record { is = inner 2 (omega arith); within = (h, omega arith, low) }

@@ -2,7 +2,7 @@
 use Rattle.std.specs.List.{slice_get}
 use Rattle.std.specs.Prelude.{◌≡◌, ℕ, zero, suc, ◌+◌, ◌-◌, ◌*◌, ◌/◌, ◌%◌, ◌<◌, ◌≤◌, List, [], ◌∷◌, ◌++◌, length, pos, Some, None, ◌≢◌}
 use Rattle.std.proofs.Math.Logic.{⊎_elim}
-use Rattle.std.proofs.Common.{◌∙◌}
+use Rattle.std.proofs.Common.{◌∙◌, sym}
 use Rattle.std.proofs.Math.Path.{ap, refl}
 use native.Mathlib.Omega.{arith}
 use Rattle.std.proofs.lemmas.Option.{slice_get_past}
@@ -10,11 +10,14 @@ use Rattle.cnf.specs.Clauses.{Clause}
 use Rattle.std.proofs.lemmas.Nat.{div_below, le-div, mod_below}
 use Rattle.std.proofs.lemmas.List.{length-append}
 use Rattle.std.proofs.lemmas.Bool.{cases_lt}
-use Rattle.closings.specs.Inputs.{Input, arc_count}
+use Rattle.closings.specs.ArcFacts.{arc_is, count_is}
+use Rattle.closings.specs.Arcs.{arc_in}
+use Rattle.closings.specs.Inputs.{Input, arc_at, arc_count, input}
 use Rattle.closings.specs.Ranges.{each, upto}
 use Rattle.closings.specs.StepsClauses.{label_rises, some_step, step_enters, step_leaves}
 use Rattle.closings.specs.StepsClauses.{steps_clauses, steps_of_arc, steps_s}
-use Rattle.closings.specs.StepsPlaces.{steps_at}
+use Rattle.closings.specs.StepsPlaces.{StepsIn, steps_at}
+use Rattle.closings.specs.declared.remaining.Remaining.{Remaining}
 use Rattle.closings.specs.declared.steps.Place.{Place}
 use Rattle.closings.specs.declared.steps.Place.TheVariants.{Enters, Leaves, Rises, SomeStep}
 use Rattle.closings.specs.RangesLemmas.{factor_positive, length_each, length_upto, nth_each, nth_left, nth_right, nth_upto}
@@ -145,16 +148,23 @@ module _ (x : Input) where
   pub some_step_past : (a j : ℕ) → 0 < x.nodes → x.nodes ≤ j → slice_get (some_step x a) j ≡ None
   some_step_past a j p h = slice_get_past (some_step x a) j (omega (arith, some_step_length a p))
 
--- the clause at the place that is found
-abbrev Found : Input → ℕ → Place → Type 0
-Found x k p = slice_get (steps_clauses x) k ≡ Some (steps_at x p)
+-- p is the place of clause k
+abbrev pub Found : Input → ℕ → Place → Type 0
+Found x k p = record {
+  is : slice_get (steps_clauses x) k ≡ Some (steps_at x p);
+  within : StepsIn x p;
+}
 
 -- as it is reckoned, with q for r − 1 and w for r − 2
 module _ (x : Input) (k q w : ℕ) (eq : q ≡ x.nodes - 1) (ew : w ≡ x.nodes - 2) where
   pub found_rises : k < x.nodes * w → Found x k (Rises (k / w) (k % w + 2))
   found_rises h =
       let p = factor_positive x.nodes w k h in
-      rw ew (rises_at x k (omega arith) (rw ew at h))
+      let l = mod_below k w p in
+      record {
+        is = rw ew (rises_at x k (omega arith) (rw ew at h));
+        within = (div_below k w x.nodes p h, omega arith, omega arith);
+      }
 
   module _ (past : x.nodes * w ≤ k) where
     n : ℕ
@@ -189,18 +199,22 @@ module _ (x : Input) (k q w : ℕ) (eq : q ≡ x.nodes - 1) (ew : w ≡ x.nodes 
       pub found_some_step
           : q * 2 ≤ (k - x.nodes * w) % (q * 2 + 1) → Found x k (SomeStep ((k - x.nodes * w) / (q * 2 + 1)))
       unfolding a c
-      found_some_step l = let low = c_low in at_arc ∙ some_step_at x a c (omega arith)
+      found_some_step l = let low = c_low in record { is = at_arc ∙ some_step_at x a c (omega arith); within = h }
 
       pub found_leaves
           : (k - x.nodes * w) % (q * 2 + 1) < q * 2 → (k - x.nodes * w) % (q * 2 + 1) % 2 ≡ 0
           → Found x k (Leaves ((k - x.nodes * w) / (q * 2 + 1)) ((k - x.nodes * w) % (q * 2 + 1) / 2 + 1))
       unfolding a c
       found_leaves l e =
-          at_arc ∙ leaves_at x a c (omega arith) e
+          record { is = at_arc ∙ leaves_at x a c (omega arith) e; within = (h, omega arith, omega arith) }
 
       pub found_enters
           : (k - x.nodes * w) % (q * 2 + 1) < q * 2 → ((k - x.nodes * w) % (q * 2 + 1) % 2 ≢ 0)
           → Found x k (Enters ((k - x.nodes * w) / (q * 2 + 1)) ((k - x.nodes * w) % (q * 2 + 1) / 2 + 1))
       unfolding a c
       found_enters l e =
-          at_arc ∙ enters_at x a c (omega arith) (omega arith)
+          record { is = at_arc ∙ enters_at x a c (omega arith) (omega arith); within = (h, omega arith, omega arith) }
+
+-- an arc that is read from memory
+pub arc_read : (x : Remaining) (a : ℕ) → a < arc_count (input x) → arc_in x.arcs a ≡ arc_at (input x) a
+arc_read x a h = sym (arc_is x a (omega (arith, count_is x)))
