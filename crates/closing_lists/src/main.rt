@@ -13,38 +13,36 @@ use std::alloc::{AllocError, Global};
 use std::io;
 use trials::Sequence;
 
-// Puts the arcs on the variables from 1 on, in order, or backwards, so that the variables fall while
-// the pairs rise.
-fn number(arcs: &mut [Arc], backwards: bool) {
-    // no graph takes more arcs than these
-    let variables = 1..=4096;
-    if backwards {
-        for (arc, variable) in arcs.iter_mut().rev().zip(variables) {
-            arc.variable = variable;
-        }
-    } else {
-        for (arc, variable) in arcs.iter_mut().zip(variables) {
-            arc.variable = variable;
-        }
-    }
-}
-
-// Those arcs between n nodes that are chosen, on no variable yet.
+// Those pairs of the nodes that are chosen.
 fn draw<F: FnMut(u32, u32) -> bool>(
     alloc: Global,
     nodes: u32,
     mut is_chosen: F,
-) -> Result<Vec<Arc>, AllocError>
+) -> Result<Vec<(u32, u32)>, AllocError>
     requires { F.IsAlwaysCallable is_chosen }
 {
-    let mut arcs = Vec::new(alloc);
+    let mut pairs = Vec::new(alloc);
     for from in 0..nodes {
         for to in 0..nodes {
             if is_chosen(from, to) {
-                let variable = 0;
-                arcs.push(Arc { from, to, variable })?;
+                pairs.push((from, to))?;
             }
         }
+    }
+    Ok(pairs)
+}
+
+// The pairs as arcs, each on the next of the variables.
+fn number<I: Iterator<Item = u32> + Drop>(
+    alloc: Global,
+    pairs: &[(u32, u32)],
+    variables: I,
+) -> Result<Vec<Arc>, AllocError>
+    requires { I.can_next variables }
+{
+    let mut arcs = Vec::new(alloc);
+    for ((from, to), variable) in pairs.iter().copied().zip(variables) {
+        arcs.push(Arc { from, to, variable })?;
     }
     Ok(arcs)
 }
@@ -80,20 +78,16 @@ fn print_closings(rt: &HostRuntime, x: &Remaining, stride: usize) -> io::Result<
     Ok(())
 }
 
-// Prints the closings of the graph of n nodes whose first free variable stands so far past the last
-// arc's.
+// Prints the closings of the graph of these nodes and arcs with that first free variable.
 fn print_graph(
     rt: &HostRuntime,
     nodes: u32,
     arcs: &[Arc],
-    gap: u32,
+    first: u32,
     stride: usize,
 ) -> io::Result<()>
     requires { 0 < stride }
 {
-    let first = u32::try_from(arcs.len())
-        .unwrap_or(u32::MAX)
-        .saturating_add(gap);
     match Remaining::checked(nodes, arcs, first) {
         Some(x) => print_closings(rt, &x, stride),
         None => println!(rt; "not fit"),
@@ -104,15 +98,23 @@ fn main(rt: HostRuntime) -> io::Result<()> {
     let mut numbers = Sequence { state: 9 };
     for _ in 0..40 {
         let nodes = numbers.below(6);
-        let mut arcs = draw(rt.alloc(), nodes, |from, to| {
+        let pairs = draw(rt.alloc(), nodes, |from, to| {
             numbers.below(3) == 0 && from != to
         })?;
-        number(&mut arcs, numbers.below(2) == 1);
+        let last = u32::try_from(pairs.len()).unwrap_or(u32::MAX);
+        let arcs = if numbers.below(2) == 1 {
+            // the variables fall while the pairs rise
+            number(rt.alloc(), &pairs, (1..=last).rev())?
+        } else {
+            number(rt.alloc(), &pairs, 1..=last)?
+        };
         let gap = numbers.below(3).saturating_add(1);
         println!(rt; "graph {nodes}")?;
-        print_graph(&rt, nodes, &arcs, gap, 1)?;
+        print_graph(&rt, nodes, &arcs, last.saturating_add(gap), 1)?;
     }
-    let mut arcs = draw(rt.alloc(), 64, |from, to| from != to)?;
-    number(&mut arcs, false);
-    print_graph(&rt, 64, &arcs, 1, 9_973)
+    // the largest graph, whose arcs take the variables below the first free one
+    let pairs = draw(rt.alloc(), 64, |from, to| from != to)?;
+    let first = 64 * 63 + 1;
+    let arcs = number(rt.alloc(), &pairs, 1..first)?;
+    print_graph(&rt, 64, &arcs, first, 9_973)
 }
