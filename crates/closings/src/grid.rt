@@ -9,12 +9,21 @@ use crate::remaining::Remaining;
 
 #[derive(Clone, Copy)]
 pub(crate) struct Grid<'x> {
-    pub(crate) x: &'x Remaining,
+    x: &'x Remaining,
     pub(crate) width: u32,
     ghost narrow: { width < 64 },
 }
 
 impl<'x> Grid<'x> {
+    // The two blocks of a graph in rows of a width.
+    pub(crate) fn new(x: &'x Remaining, width: u32) -> Grid<'x>
+        requires { width < 64 }
+        ensures graph { result.x.now ≡ x.now }
+        ensures width { result.width ≡ width }
+    {
+        Grid { x, width }
+    }
+
     // How many variables the two blocks have.
     pub(crate) fn added(self) -> u32
         ensures { result ≡ grid_adds (input self.entry.x.now) self.entry.width }

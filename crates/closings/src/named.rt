@@ -47,7 +47,8 @@ impl NamedClosing {
         name == self.name().as_bytes()
     }
 
-    // The closing of a name, or none.
+    // The closing of a name, or none. No `TryFrom` stands beside it: that would say the same again, with
+    // an error that tells no more than `None`.
     pub fn from_name(name: &[u8]) -> Option<NamedClosing>
         ensures named { MatchOption result ((c : The-closing) → name.now ≢ name_of c) (λ c. name.now ≡ name_of c) }
     {

@@ -1,7 +1,8 @@
 // The closing by binary labels. Every node gets a label of as few bits as tell the nodes apart, and
 // along every chosen arc the label has to rise, which it cannot do around a ring. There is one added
 // variable for each bit of each node's label, and one for each arc and bit, which says that along
-// that arc the label rises in that bit and those below it.
+// that arc the label rises in that bit and those below it. They stand in rows of as many as there are
+// bits.
 ghost use Rattle.std.specs.Prelude.{◌≡◌, ◌≤◌, length, slice_get};
 ghost use Rattle.closings.specs.Inputs.{Input, input};
 ghost use Rattle.closings.specs.NumbersClauses.{bits_for, numbers_adds, numbers_clauses};
@@ -35,18 +36,6 @@ fn bits(r: u32) -> u32
     ensures few { result ≤ 6 }
 {
     u32::BITS - r.saturating_sub(1).leading_zeros()
-}
-
-// The added variables, in rows of as many as there are bits: for a node those of its label, and for
-// an arc those that say that the lowest bits rise along it.
-fn grid(x: &Remaining) -> Grid<'_>
-    ensures graph { result.x.now ≡ x.now }
-    ensures width { result.width ≡ bits_for x.now.nodes }
-{
-    Grid {
-        x,
-        width: bits(x.nodes),
-    }
 }
 
 // The place of clause k, or none past the last.
@@ -95,7 +84,7 @@ impl Place {
         requires { NumbersIn (input x.now) self }
         ensures { result ≡ slice_get (numbers_at (input x.now) self) j }
     {
-        let grid = grid(x);
+        let grid = Grid::new(x, bits(x.nodes));
         match self {
             Place::LowLeaves(a) => {
                 let leaves = grid.node_variable(x.arc_at(a).from, 1).negative();
@@ -140,7 +129,7 @@ impl Closing for Numbers {
     ghost small = { λ s. numbers_small };
 
     fn added(&self, x: &Remaining) -> u32 {
-        grid(x).added()
+        Grid::new(x, bits(x.nodes)).added()
     }
 
     fn count(&self, x: &Remaining) -> u32 {

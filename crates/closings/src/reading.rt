@@ -15,7 +15,8 @@ impl Remaining {
         self.count
     }
 
-    // Arc a.
+    // Arc a. Its number stays a plain one with a premise: it is found as part of a place, which the specs
+    // compare, and a struct for it would hold its graph too, with a premise that this is the same one.
     pub(crate) fn arc_at(&self, a: u32) -> Arc
         requires { a < arc_count (input self.now) }
         ensures is { result ≡ arc_at (input self.now) a }

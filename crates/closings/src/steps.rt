@@ -2,7 +2,8 @@
 // chosen arc. The label of node i is told by r − 1 variables: y(i,k) says that it is at least r − k,
 // so that what is true at one k stays true at the next. For arc a the variable s(a,k) says that step
 // k tells its ends apart, which is that y(i,k) is false of the node it leaves and y(j,k) true of the
-// node it enters; an arc that is chosen has such a step.
+// node it enters; an arc that is chosen has such a step. The variables stand in rows of as many as
+// there are steps.
 ghost use Rattle.std.specs.Prelude.{◌≡◌, ◌-◌, ◌<◌, length, slice_get};
 ghost use Rattle.closings.specs.Inputs.{arc_count, input};
 ghost use Rattle.closings.specs.StepsClauses.{some_step, steps_adds, steps_clauses};
@@ -34,17 +35,6 @@ fn step_count(x: &Remaining) -> u32
     ensures { result ≡ x.now.nodes - 1 }
 {
     x.nodes.saturating_sub(1)
-}
-
-// The added variables, in rows of as many as there are steps.
-fn grid(x: &Remaining) -> Grid<'_>
-    ensures graph { result.x.now ≡ x.now }
-    ensures width { result.width ≡ x.now.nodes - 1 }
-{
-    Grid {
-        x,
-        width: step_count(x),
-    }
 }
 
 // The place of clause k, or none past the last.
@@ -84,7 +74,8 @@ fn some_step(x: &Remaining, a: u32, j: u32) -> Option<i32>
         return Some(x.chosen(a).negative());
     }
     if j < x.nodes {
-        return Some(grid(x).arc_variable(a, j).positive());
+        let grid = Grid::new(x, step_count(x));
+        return Some(grid.arc_variable(a, j).positive());
     }
     None
 }
@@ -106,18 +97,19 @@ impl Place {
         requires { StepsIn (input x.now) self }
         ensures { result ≡ slice_get (steps_at (input x.now) self) j }
     {
+        let grid = Grid::new(x, step_count(x));
         match self {
             Place::Rises(i, k) => {
-                let before = grid(x).node_variable(i, k - 1).negative();
-                literal_at([before, grid(x).node_variable(i, k).positive()], j)
+                let before = grid.node_variable(i, k - 1).negative();
+                literal_at([before, grid.node_variable(i, k).positive()], j)
             }
             Place::Leaves(a, k) => {
-                let label = grid(x).node_variable(x.arc_at(a).from, k).negative();
-                literal_at([label, grid(x).arc_variable(a, k).negative()], j)
+                let label = grid.node_variable(x.arc_at(a).from, k).negative();
+                literal_at([label, grid.arc_variable(a, k).negative()], j)
             }
             Place::Enters(a, k) => {
-                let label = grid(x).node_variable(x.arc_at(a).to, k).positive();
-                literal_at([label, grid(x).arc_variable(a, k).negative()], j)
+                let label = grid.node_variable(x.arc_at(a).to, k).positive();
+                literal_at([label, grid.arc_variable(a, k).negative()], j)
             }
             Place::SomeStep(a) => some_step(x, a, j),
         }
@@ -136,7 +128,7 @@ impl Closing for Steps {
     ghost small = { λ s. steps_small };
 
     fn added(&self, x: &Remaining) -> u32 {
-        grid(x).added()
+        Grid::new(x, step_count(x)).added()
     }
 
     fn count(&self, x: &Remaining) -> u32 {
