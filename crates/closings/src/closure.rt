@@ -1,15 +1,15 @@
 // The closing by a transitive closure. An added variable y(i,j), one for each pair of nodes, says that i
 // comes before j: no node comes before itself, the relation is transitive, and a chosen arc's start
 // comes before its end.
-ghost use Rattle.std.specs.Prelude.{◌≡◌, ◌<◌, length, slice_get};
+ghost use Rattle.std.specs.Prelude.{◌≡◌, ◌<◌};
 ghost use Rattle.closings.specs.ClosureClauses.{closure_adds, closure_clauses, closure_y};
 ghost use Rattle.closings.specs.ClosurePlaces.{closure_at, ClosureIn};
-ghost use Rattle.closings.specs.Inputs.{Input, input};
+ghost use Rattle.closings.specs.Inputs.{input};
 ghost use Rattle.closings.specs.ClosureLaw.{closure_closes, closure_uses, closure_small};
-ghost use Rattle.std.specs.Option.{IfSome, option_map};
 
 use crate::closing::Closing;
 use crate::literals::{Variable, literal_at};
+use crate::places::{ClausePlace, length_of, literal_of};
 use crate::remaining::Remaining;
 
 #[derive(Clone, Copy)]
@@ -23,29 +23,6 @@ enum Place {
     ArcBefore(u32),
 }
 
-// The place of clause k, or none past the last.
-fn find(x: &Remaining, k: u32) -> Option<Place>
-    ensures is { slice_get (closure_clauses (input x.now)) k ≡ option_map (closure_at (input x.now)) result }
-    ensures within { IfSome result (ClosureIn (input x.now)) }
-{
-    let nodes = x.nodes;
-    if k < nodes {
-        return Some(Place::NeverItself(k));
-    }
-    let second = k - nodes;
-    let square = nodes * nodes;
-    let cube = nodes * square;
-    if second < cube {
-        let row = second % square;
-        return Some(Place::Transitive(second / square, row / nodes, row % nodes));
-    }
-    let third = second - cube;
-    if third < x.arc_count() {
-        return Some(Place::ArcBefore(third));
-    }
-    None
-}
-
 // The variable y(i,j), which says that i comes before j.
 fn before(x: &Remaining, i: u32, j: u32) -> Variable
     requires start { i < x.now.nodes }
@@ -57,11 +34,33 @@ fn before(x: &Remaining, i: u32, j: u32) -> Variable
     }
 }
 
-impl Place {
-    // The length of the clause that stands here.
-    fn length(self) -> u32
-        ensures { (x : Input) → result ≡ length (closure_at x self) }
-    {
+impl ClausePlace for Place {
+    ghost clauses = { closure_clauses };
+
+    ghost clause_at = { closure_at };
+
+    ghost Within = { ClosureIn };
+
+    fn find(x: &Remaining, k: u32) -> Option<Place> {
+        let nodes = x.nodes;
+        if k < nodes {
+            return Some(Place::NeverItself(k));
+        }
+        let second = k - nodes;
+        let square = nodes * nodes;
+        let cube = nodes * square;
+        if second < cube {
+            let row = second % square;
+            return Some(Place::Transitive(second / square, row / nodes, row % nodes));
+        }
+        let third = second - cube;
+        if third < x.arc_count() {
+            return Some(Place::ArcBefore(third));
+        }
+        None
+    }
+
+    fn length(self, _x: &Remaining) -> u32 {
         match self {
             Place::NeverItself(_) => 1,
             Place::Transitive(_, _, _) => 3,
@@ -69,11 +68,7 @@ impl Place {
         }
     }
 
-    // Literal j of the clause that stands here.
-    fn literal(self, x: &Remaining, j: u32) -> Option<i32>
-        requires { ClosureIn (input x.now) self }
-        ensures { result ≡ slice_get (closure_at (input x.now) self) j }
-    {
+    fn literal(self, x: &Remaining, j: u32) -> Option<i32> {
         match self {
             Place::NeverItself(i) => literal_at([before(x, i, i).negative()], j),
             Place::Transitive(i, m, t) => {
@@ -110,12 +105,10 @@ impl Closing for Closure {
     }
 
     fn length(&self, x: &Remaining, k: u32) -> Option<u32> {
-        let place = find(x, k)?;
-        Some(place.length())
+        length_of::<Place>(x, k)
     }
 
-    #[tactic(auto, using(crate::specs::RangesLemmas::told, crate::specs::RangesLemmas::told_none))]
     fn literal(&self, x: &Remaining, k: u32, j: u32) -> Option<i32> {
-        find(x, k)?.literal(x, j)
+        literal_of::<Place>(x, k, j)
     }
 }

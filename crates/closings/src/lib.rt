@@ -10,6 +10,7 @@ mod grid;
 mod literals;
 pub mod named;
 pub mod numbers;
+mod places;
 mod reading;
 pub mod remaining;
 pub mod steps;

@@ -3,16 +3,15 @@
 // variable for each bit of each node's label, and one for each arc and bit, which says that along
 // that arc the label rises in that bit and those below it. They stand in rows of as many as there are
 // bits.
-ghost use Rattle.std.specs.Prelude.{◌≡◌, ◌≤◌, length, slice_get};
-ghost use Rattle.closings.specs.Inputs.{Input, input};
+ghost use Rattle.std.specs.Prelude.{◌≡◌, ◌≤◌};
 ghost use Rattle.closings.specs.NumbersClauses.{bits_for, numbers_adds, numbers_clauses};
 ghost use Rattle.closings.specs.NumbersPlaces.{NumbersIn, numbers_at};
 ghost use Rattle.closings.specs.NumbersLaw.{numbers_closes, numbers_uses, numbers_small};
-ghost use Rattle.std.specs.Option.{IfSome, option_map};
 
 use crate::closing::Closing;
 use crate::grid::Grid;
 use crate::literals::literal_at;
+use crate::places::{ClausePlace, length_of, literal_of};
 use crate::remaining::Remaining;
 
 #[derive(Clone, Copy)]
@@ -38,52 +37,47 @@ fn bits(r: u32) -> u32
     u32::BITS - r.saturating_sub(1).leading_zeros()
 }
 
-// The place of clause k, or none past the last.
-fn find(x: &Remaining, k: u32) -> Option<Place>
-    ensures is { slice_get (numbers_clauses (input x.now)) k ≡ option_map (numbers_at (input x.now)) result }
-    ensures within { IfSome result (NumbersIn (input x.now)) }
-{
-    let middle = bits(x.nodes).saturating_sub(1) * 3;
-    let width = middle + 3;
-    let a = k / width;
-    if a >= x.arc_count() {
-        return None;
-    }
-    let at = k % width;
-    if at == 0 {
-        return Some(Place::LowLeaves(a));
-    }
-    if at == 1 {
-        return Some(Place::LowEnters(a));
-    }
-    let m = at - 2;
-    if m >= middle {
-        return Some(Place::AllRise(a));
-    }
-    let bit = m / 3 + 2;
-    match m % 3 {
-        0 => Some(Place::BitRises(a, bit)),
-        1 => Some(Place::RestLeaves(a, bit)),
-        _ => Some(Place::RestEnters(a, bit)),
-    }
-}
+impl ClausePlace for Place {
+    ghost clauses = { numbers_clauses };
 
-impl Place {
-    // The length of the clause that stands here.
-    fn length(self) -> u32
-        ensures { (x : Input) → result ≡ length (numbers_at x self) }
-    {
+    ghost clause_at = { numbers_at };
+
+    ghost Within = { NumbersIn };
+
+    fn find(x: &Remaining, k: u32) -> Option<Place> {
+        let middle = bits(x.nodes).saturating_sub(1) * 3;
+        let width = middle + 3;
+        let a = k / width;
+        if a >= x.arc_count() {
+            return None;
+        }
+        let at = k % width;
+        if at == 0 {
+            return Some(Place::LowLeaves(a));
+        }
+        if at == 1 {
+            return Some(Place::LowEnters(a));
+        }
+        let m = at - 2;
+        if m >= middle {
+            return Some(Place::AllRise(a));
+        }
+        let bit = m / 3 + 2;
+        match m % 3 {
+            0 => Some(Place::BitRises(a, bit)),
+            1 => Some(Place::RestLeaves(a, bit)),
+            _ => Some(Place::RestEnters(a, bit)),
+        }
+    }
+
+    fn length(self, _x: &Remaining) -> u32 {
         match self {
             Place::LowLeaves(_) | Place::LowEnters(_) | Place::AllRise(_) => 2,
             Place::BitRises(_, _) | Place::RestLeaves(_, _) | Place::RestEnters(_, _) => 3,
         }
     }
 
-    // Literal j of the clause that stands here.
-    fn literal(self, x: &Remaining, j: u32) -> Option<i32>
-        requires { NumbersIn (input x.now) self }
-        ensures { result ≡ slice_get (numbers_at (input x.now) self) j }
-    {
+    fn literal(self, x: &Remaining, j: u32) -> Option<i32> {
         let grid = Grid::new(x, bits(x.nodes));
         match self {
             Place::LowLeaves(a) => {
@@ -137,12 +131,10 @@ impl Closing for Numbers {
     }
 
     fn length(&self, x: &Remaining, k: u32) -> Option<u32> {
-        let place = find(x, k)?;
-        Some(place.length())
+        length_of::<Place>(x, k)
     }
 
-    #[tactic(auto, using(crate::specs::RangesLemmas::told, crate::specs::RangesLemmas::told_none))]
     fn literal(&self, x: &Remaining, k: u32, j: u32) -> Option<i32> {
-        find(x, k)?.literal(x, j)
+        literal_of::<Place>(x, k, j)
     }
 }

@@ -4,16 +4,16 @@
 // k tells its ends apart, which is that y(i,k) is false of the node it leaves and y(j,k) true of the
 // node it enters; an arc that is chosen has such a step. The variables stand in rows of as many as
 // there are steps.
-ghost use Rattle.std.specs.Prelude.{◌≡◌, ◌-◌, ◌<◌, length, slice_get};
+ghost use Rattle.std.specs.Prelude.{◌≡◌, ◌-◌, ◌<◌, slice_get};
 ghost use Rattle.closings.specs.Inputs.{arc_count, input};
 ghost use Rattle.closings.specs.StepsClauses.{some_step, steps_adds, steps_clauses};
 ghost use Rattle.closings.specs.StepsPlaces.{StepsIn, steps_at};
 ghost use Rattle.closings.specs.StepsLaw.{steps_closes, steps_uses, steps_small};
-ghost use Rattle.std.specs.Option.{IfSome, option_map};
 
 use crate::closing::Closing;
 use crate::grid::Grid;
 use crate::literals::literal_at;
+use crate::places::{ClausePlace, length_of, literal_of};
 use crate::remaining::Remaining;
 
 #[derive(Clone, Copy)]
@@ -37,34 +37,6 @@ fn step_count(x: &Remaining) -> u32
     x.nodes.saturating_sub(1)
 }
 
-// The place of clause k, or none past the last.
-fn find(x: &Remaining, k: u32) -> Option<Place>
-    ensures is { slice_get (steps_clauses (input x.now)) k ≡ option_map (steps_at (input x.now)) result }
-    ensures within { IfSome result (StepsIn (input x.now)) }
-{
-    let steps = step_count(x);
-    let row = x.nodes.saturating_sub(2);
-    let rises = x.nodes * row;
-    if k < rises {
-        return Some(Place::Rises(k / row, k % row + 2));
-    }
-    let rest = k - rises;
-    let width = steps * 2 + 1;
-    let a = rest / width;
-    if a >= x.arc_count() {
-        return None;
-    }
-    let at = rest % width;
-    if at >= steps * 2 {
-        return Some(Place::SomeStep(a));
-    }
-    if at % 2 == 0 {
-        Some(Place::Leaves(a, at / 2 + 1))
-    } else {
-        Some(Place::Enters(a, at / 2 + 1))
-    }
-}
-
 // Literal j of the clause that has arc a, if it is chosen, have a step.
 fn some_step(x: &Remaining, a: u32, j: u32) -> Option<i32>
     requires { a < arc_count (input x.now) }
@@ -80,23 +52,45 @@ fn some_step(x: &Remaining, a: u32, j: u32) -> Option<i32>
     None
 }
 
-impl Place {
-    // The length of the clause that stands here.
-    fn length(self, x: &Remaining) -> u32
-        requires { StepsIn (input x.now) self }
-        ensures { result ≡ length (steps_at (input x.now) self) }
-    {
+impl ClausePlace for Place {
+    ghost clauses = { steps_clauses };
+
+    ghost clause_at = { steps_at };
+
+    ghost Within = { StepsIn };
+
+    fn find(x: &Remaining, k: u32) -> Option<Place> {
+        let steps = step_count(x);
+        let row = x.nodes.saturating_sub(2);
+        let rises = x.nodes * row;
+        if k < rises {
+            return Some(Place::Rises(k / row, k % row + 2));
+        }
+        let rest = k - rises;
+        let width = steps * 2 + 1;
+        let a = rest / width;
+        if a >= x.arc_count() {
+            return None;
+        }
+        let at = rest % width;
+        if at >= steps * 2 {
+            return Some(Place::SomeStep(a));
+        }
+        if at % 2 == 0 {
+            Some(Place::Leaves(a, at / 2 + 1))
+        } else {
+            Some(Place::Enters(a, at / 2 + 1))
+        }
+    }
+
+    fn length(self, x: &Remaining) -> u32 {
         match self {
             Place::Rises(_, _) | Place::Leaves(_, _) | Place::Enters(_, _) => 2,
             Place::SomeStep(_) => x.nodes,
         }
     }
 
-    // Literal j of the clause that stands here.
-    fn literal(self, x: &Remaining, j: u32) -> Option<i32>
-        requires { StepsIn (input x.now) self }
-        ensures { result ≡ slice_get (steps_at (input x.now) self) j }
-    {
+    fn literal(self, x: &Remaining, j: u32) -> Option<i32> {
         let grid = Grid::new(x, step_count(x));
         match self {
             Place::Rises(i, k) => {
@@ -138,12 +132,10 @@ impl Closing for Steps {
     }
 
     fn length(&self, x: &Remaining, k: u32) -> Option<u32> {
-        let place = find(x, k)?;
-        Some(place.length(x))
+        length_of::<Place>(x, k)
     }
 
-    #[tactic(auto, using(crate::specs::RangesLemmas::told, crate::specs::RangesLemmas::told_none))]
     fn literal(&self, x: &Remaining, k: u32, j: u32) -> Option<i32> {
-        find(x, k)?.literal(x, j)
+        literal_of::<Place>(x, k, j)
     }
 }

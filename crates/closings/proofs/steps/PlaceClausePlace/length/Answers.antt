@@ -4,7 +4,7 @@ use Rattle.closings.specs.Inputs.{input}
 use Rattle.closings.specs.ArcFacts.{ready_of}
 use Rattle.closings.specs.StepsListing.{some_step_length}
 use Rattle.closings.specs.StepsPlaces.{steps_at}
-use Rattle.closings.proofs.steps.Place.length.Goals as goal
+use Rattle.closings.proofs.steps.PlaceClausePlace.length.Goals as goal
 
 pub returns-in-SomeStep : goal.returns-in-SomeStep
 returns-in-SomeStep c =

@@ -5,7 +5,7 @@ use Rattle.closings.specs.Inputs.{Lawful, input}
 use Rattle.closings.specs.NumbersListing.{found_all_rise, found_bit_rises, found_low_enters, found_low_leaves}
 use Rattle.closings.specs.NumbersListing.{found_rest_enters, found_rest_leaves, none_past}
 use Rattle.closings.specs.declared.remaining.Remaining.{Remaining}
-use Rattle.closings.proofs.numbers.find.Goals as goal
+use Rattle.closings.proofs.numbers.PlaceClausePlace.find.Goals as goal
 
 law : (x : Remaining) → Lawful (input x)
 law x = (ready_of x).lawful

@@ -1,7 +1,7 @@
 -- The place that is found is that of the clause.
 use Rattle.closings.specs.Inputs.{input}
 use Rattle.closings.specs.StepsListing.{found_enters, found_leaves, found_rises, found_some_step, none_past}
-use Rattle.closings.proofs.steps.find.Goals as goal
+use Rattle.closings.proofs.steps.PlaceClausePlace.find.Goals as goal
 
 pub returns-then-k-rises : goal.returns-then-k-rises
 returns-then-k-rises c =

@@ -2,7 +2,7 @@
 use Rattle.std.proofs.Common.{◌-◌, ◌*◌, arith}
 use Rattle.closings.specs.Inputs.{input}
 use Rattle.closings.specs.ClosureListing.{closure_first, closure_past, closure_second, closure_third}
-use Rattle.closings.proofs.closure.find.Goals as goal
+use Rattle.closings.proofs.closure.PlaceClausePlace.find.Goals as goal
 
 pub returns-then-k-nodes-clause-is : goal.returns-then-k-nodes-clause-is
 returns-then-k-nodes-clause-is c = closure_first (input c.args.x.now) c.args.k c.if-k-nodes.true
