@@ -1,3 +1,4 @@
+use Rattle.std.specs.List.{slice_get}
 use Rattle.std.proofs.Common.{◌≡◌, ◌+◌, ◌-◌, ◌<◌, min, List, [], ◌++◌, length, get_or, take, drop, pos, unwrap_or, ap, ◌∙◌, arith, w32, SFits, rules, length-take}
 use Rattle.cnf.proofs.Copies.{copied_front, copied_more, length_or_zero, value_at}
 use Rattle.cnf.specs.Clauses.{Clause}
@@ -29,7 +30,7 @@ loop-i-preserved g c =
     let within : c.args.from + c.loop-i.i < length cl =
     omega (arith, count, places, c.min-n.ensures, c.loop-i-test.true) in
     let fits : SFits w32 c.unwrap_or-in-loop-i.result = search rules in
-    let is = to_z-of_z w32 _ fits ∙ c.unwrap_or-in-loop-i.ensures ∙ ap (λ o. unwrap_or o (pos 0)) c.literal.ensures
+    let is = to_z-of_z w32 _ fits ∙ c.unwrap_or-in-loop-i.ensures ∙ ap (λ o. unwrap_or o (pos 0)) {y = slice_get cl _} c.literal.ensures
     ∙ value_at cl _ (pos 0) _ within in
     copied_more cl (take c.min-n.result c.args.out.now) c.loop-i.place-items c.args.from c.loop-i.i _ (omega arith)
     (omega (arith, c.loop-i-test.true)) c.loop-i.invariant is
