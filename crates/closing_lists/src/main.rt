@@ -40,11 +40,11 @@ fn number<I: Iterator<Item = u32> + Drop>(
 ) -> Result<Vec<Arc>, AllocError>
     requires { I.can_next variables }
 {
-    let mut arcs = Vec::new(alloc);
-    for ((from, to), variable) in pairs.iter().copied().zip(variables) {
-        arcs.push(Arc { from, to, variable })?;
-    }
-    Ok(arcs)
+    pairs
+        .iter()
+        .zip(variables)
+        .map(|(&(from, to), variable)| Arc { from, to, variable })
+        .collect(alloc)
 }
 
 // Prints clause k of a closing.
