@@ -54,7 +54,7 @@ impl Body {
 
 // Which premises a clause has at each pair of nodes.
 pub(crate) trait Rule {
-    // the variables, 0 for one that is not there
+    // the variables, 0 for one that is not there, as in the sheet's view
     ghost premises: { Self → ℕ → ℕ → List ℕ };
 
     // The premises at the pair (u, w), or none where one of them is not there.
