@@ -75,12 +75,12 @@ fn plan<R: Rule>(rule: &R, nodes: u32, arcs: &mut Arcs, pairs: &mut Bounded<'_, 
     ensures next { arcs.new.next ≤ arcs.old.next + 4096 }
     ensures few { length (entries pairs.new) ≤ 4096 }
 {
-    // the i-th pair, ascending
-    for i in 0..nodes * nodes {
-        let (u, w) = (i / nodes, i % nodes);
-        if rule.body(u, w).is_some() {
-            let _ = pairs.push((u, w));
-            arcs.give(u, w);
+    for u in 0..nodes {
+        for w in 0..nodes {
+            if rule.body(u, w).is_some() {
+                let _ = pairs.push((u, w));
+                arcs.give(u, w);
+            }
         }
     }
 }
