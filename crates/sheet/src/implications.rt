@@ -128,7 +128,9 @@ impl<'p, R: Rule> Formula for Planned<'p, R> {
     }
 }
 
-// Writes the clauses of a rule to a sink, all or none, and gives the arcs as they are then.
+// Writes the clauses of a rule to a sink, all or none, and gives the arcs as they are then. (What this
+// and the four calls above it say of the sink stays clause by clause: one definition would have to be
+// given the state, the clauses and the names of S before and after, and would be no shorter.)
 pub(crate) fn write_planned<R: Rule, S: Sink>(
     sheet: &Sheet,
     rule: &R,
