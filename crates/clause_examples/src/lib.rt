@@ -40,46 +40,36 @@ mod tests {
         assert_eq!(rt; table.append(&[-1_073_741_823]), Err(SinkRefusal::Room));
     }
 
-    // What a guard with this literal says of the clause -4 -7.
-    fn guarded<S: Sink>(
+    // What a sink says of a clause, and that it has these limits.
+    fn says<S: Sink>(
         rt: &impl Abort,
-        below: &mut S,
-        literal: i32,
-        longest: u32,
+        sink: &mut S,
+        limits: (u32, u32),
+        clause: &[i32],
         cost: u32,
         answer: Result<(), SinkRefusal>,
     ) {
-        let mut guard = Guard::new(below, literal);
-        assert_eq!(rt; guard.limits(), (1_073_741_823, longest));
-        assert_eq!(rt; guard.cost(&[-4, -7]), cost);
-        assert_eq!(rt; guard.add(&[-4, -7]), answer);
+        assert_eq!(rt; sink.limits(), limits);
+        assert_eq!(rt; sink.cost(clause), cost);
+        assert_eq!(rt; sink.add(clause), answer);
     }
+
+    const TOP: u32 = 1_073_741_823;
 
     #[test]
     fn guard_takes_any_literal(rt: HostRuntime) {
         let mut literals = [0; 4];
         let mut pairs = [(0, 0); 2];
         let mut table = TableSink::new(&mut literals, &mut pairs);
-        guarded(&rt, &mut table, i32::MIN, 0, 0, Err(SinkRefusal::Length));
-        guarded(&rt, &mut table, 0, 0, 0, Err(SinkRefusal::Length));
-        guarded(&rt, &mut table, -8, 255, 3, Ok(()));
+        let too_long = Err(SinkRefusal::Length);
+        let mut guard = Guard::new(&mut table, i32::MIN);
+        says(&rt, &mut guard, (TOP, 0), &[-4, -7], 0, too_long);
+        let mut guard = Guard::new(&mut table, 0);
+        says(&rt, &mut guard, (TOP, 0), &[-4, -7], 0, too_long);
+        let mut guard = Guard::new(&mut table, -8);
+        says(&rt, &mut guard, (TOP, 255), &[-4, -7], 3, Ok(()));
         assert_eq!(rt; table.stored(), (1, 3));
         assert_eq!(rt; literals, [-4, -7, -8, 0]);
-    }
-
-    // What an offset by this shift says of the clause -1.
-    fn shifted<S: Sink>(
-        rt: &impl Abort,
-        below: &mut S,
-        shift: u32,
-        top: u32,
-        cost: u32,
-        answer: Result<(), SinkRefusal>,
-    ) {
-        let mut offset = Offset::new(below, shift);
-        assert_eq!(rt; offset.limits(), (top, 256));
-        assert_eq!(rt; offset.cost(&[-1]), cost);
-        assert_eq!(rt; offset.add(&[-1]), answer);
     }
 
     #[test]
@@ -87,16 +77,13 @@ mod tests {
         let mut literals = [0; 4];
         let mut pairs = [(0, 0); 2];
         let mut table = TableSink::new(&mut literals, &mut pairs);
-        shifted(&rt, &mut table, u32::MAX, 0, 0, Err(SinkRefusal::Literal));
-        shifted(
-            &rt,
-            &mut table,
-            1_073_741_823,
-            0,
-            0,
-            Err(SinkRefusal::Literal),
-        );
-        shifted(&rt, &mut table, 1_073_741_822, 1, 1, Ok(()));
+        let too_high = Err(SinkRefusal::Literal);
+        let mut offset = Offset::new(&mut table, u32::MAX);
+        says(&rt, &mut offset, (0, 256), &[-1], 0, too_high);
+        let mut offset = Offset::new(&mut table, TOP);
+        says(&rt, &mut offset, (0, 256), &[-1], 0, too_high);
+        let mut offset = Offset::new(&mut table, 1_073_741_822);
+        says(&rt, &mut offset, (1, 256), &[-1], 1, Ok(()));
         assert_eq!(rt; table.stored(), (1, 1));
         assert_eq!(rt; literals, [-1_073_741_823, 0, 0, 0]);
     }
@@ -126,7 +113,7 @@ mod tests {
         read_alike(&rt, &mut table);
     }
 
-    // Writes the clauses 2 5 and 5 to a table with this many places.
+    // Writes the clauses 2 5 and 5 to a table.
     fn write_two(sink: &mut TableSink) -> Result<(), SinkRefusal> {
         let mut literals = [0; 3];
         let mut pairs = [(0, 0); 2];

@@ -1,15 +1,15 @@
 -- Literals copied one by one to the front of a buffer.
 use Rattle.std.specs.List.{slice_get}
-use Rattle.std.proofs.Common.{◌≡◌, ℕ, zero, suc, ◌+◌, ◌-◌, ◌<◌, ◌≤◌, List, [], ◌∷◌, ◌++◌, length, get_or, take, drop, set, unwrap_or, sym, refl, ap, ◌∙◌, arith}
-use Rattle.std.proofs.lemmas.Option.{slice_get-get_or}
+use Rattle.std.proofs.Common.{◌≡◌, ℕ, ◌+◌, ◌-◌, ◌<◌, ◌≤◌, List, [], ◌∷◌, ◌++◌, length, map, get_or, take, drop, set, unwrap_or, sym, ap, ◌∙◌, arith}
+use Rattle.std.proofs.lemmas.Option.{slice_get-get_or, slice_get-map, unwrap_or-slice_get}
+use Rattle.std.proofs.Math.ListN.{get_or-map}
 use Rattle.std.proofs.lemmas.List.{append-nil, append_assoc, drop_all, drop_more, get_or-drop, length-drop, length-take-le, set_at, take_more}
 use Rattle.std.specs.Option.{option_map}
 
 -- the length of an entry of a list of lists, or 0, is the length of what stands there
 pub length_or_zero : {X : Type 0} (xs : List (List X)) (k : ℕ) → unwrap_or (option_map length (slice_get xs k)) 0 ≡ length (get_or xs k [])
-length_or_zero [] k = refl
-length_or_zero (x ∷ xs) zero = refl
-length_or_zero (x ∷ xs) (suc k) = length_or_zero xs k
+length_or_zero xs k =
+    ap (λ o. unwrap_or o 0) (sym (slice_get-map length xs k)) ∙ unwrap_or-slice_get (map length xs) k 0 ∙ get_or-map length xs k []
 
 -- one literal more
 pub copied_more

@@ -1,5 +1,5 @@
 -- What holds of every entry of a list, said by recursion on the list, from the library's laws on what holds at every place.
-use Rattle.std.proofs.Common.{◌≡◌, ℕ, suc, ◌<◌, Bool, true, List, [], ◌∷◌, ◌++◌, map, length, get_or, filter, arith}
+use Rattle.std.proofs.Common.{◌≡◌, ℕ, ◌<◌, Bool, true, List, ◌++◌, map, length, get_or, filter}
 use Rattle.std.specs.List.{AllByRecursion}
 use Rattle.std.proofs.lemmas.List.Elements.{All-from_recursion, recursion_from_All}
 use Rattle.std.proofs.lemmas.List.Elements as places
@@ -9,8 +9,7 @@ module _ {X : Type 0} (P : X → Type 0) where
   all_at xs i d l h = All-from_recursion P xs h i d l
 
   pub all_from_get_or : (xs : List X) (d : X) → ((i : ℕ) → i < length xs → P (get_or xs i d)) → AllByRecursion P xs
-  all_from_get_or [] d h = tt
-  all_from_get_or (x ∷ xs) d h = (h 0 (omega arith), all_from_get_or xs d (λ i l. h (suc i) (omega arith)))
+  all_from_get_or xs d h = recursion_from_All P xs (places.All-from_get_or P xs d h)
 
   pub all_append : (xs ys : List X) → AllByRecursion P xs → AllByRecursion P ys → AllByRecursion P (xs ++ ys)
   all_append xs ys h k =

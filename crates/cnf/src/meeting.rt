@@ -1,41 +1,73 @@
 // Whether value bytes meet the clauses of a formula: byte v − 1 belongs to variable v, 1 is true, 2 is
 // false, and any other value, or no byte, meets neither literal. The formula need not be a sink, so
 // a clause may be empty or of any length, and a literal may be any number.
-ghost use Rattle.std.specs.Prelude.{◌≡◌, ◌≤◌, [], slice_index_or};
-ghost use Rattle.cnf.specs.Meeting.{first_unmet, meets_byte, met, value_of};
+ghost use Rattle.std.specs.Prelude.{◌≡◌, ℕ, ◌≤◌, [], slice_index_or};
+ghost use Rattle.cnf.specs.Meeting.{first_unmet, meets_byte, met, told, value_of};
 ghost use Rattle.cnf.specs.Satisfaction.{UnmetRight};
 ghost use Rattle.std.specs.List.{list_any};
 
 use crate::formula::Formula;
 
-// Whether a literal is met by the value byte of its variable: a positive one by 1, a negative one
-// by 2. (A byte and no enum: the caller's buffer holds bytes, and the question is for every byte.)
-pub fn meets(literal: i32, value: u8) -> bool
-    ensures { result ≡ meets_byte literal value }
-{
-    if literal > 0 {
-        value == 1
-    } else {
-        literal < 0 && value == 2
+// What a value byte tells of its variable: 1 that it is true, 2 that it is false, any other nothing.
+#[derive(Clone, Copy, PartialEq, Eq, Debug)]
+pub enum Value {
+    True,
+    False,
+    Unknown,
+}
+
+impl From<u8> for Value {
+    fn from(byte: u8) -> Value
+        ensures { result ≡ told byte }
+    {
+        match byte {
+            1 => Value::True,
+            2 => Value::False,
+            _ => Value::Unknown,
+        }
     }
 }
 
-// The value byte of a variable, or 0 where there is none: what a byte that tells nothing says.
-pub fn value_of(values: &[u8], variable: u32) -> u8
-    ensures { result ≡ value_of values.now variable }
-{
-    let Some(place) = (variable as usize).checked_sub(1) else {
-        return 0;
-    };
-    values.get(place).copied().unwrap_or(0)
+impl Value {
+    // Whether it makes a literal of its variable true.
+    fn meets(self, literal: i32) -> bool
+        ensures { (b : ℕ) → self ≡ told b → result ≡ meets_byte literal b }
+    {
+        match self {
+            Value::True => literal > 0,
+            Value::False => literal < 0,
+            Value::Unknown => false,
+        }
+    }
 }
 
-// Whether some of these literals is met.
+// Whether a literal is met by the value byte of its variable: a positive one by 1, a negative one
+// by 2.
+pub fn meets(literal: i32, value: u8) -> bool
+    ensures { result ≡ meets_byte literal value }
+{
+    Value::from(value).meets(literal)
+}
+
+// What the byte of a variable tells: nothing where there is no byte.
+pub fn value_of(values: &[u8], variable: u32) -> Value
+    ensures { result ≡ told (value_of values.now variable) }
+{
+    let Some(place) = (variable as usize).checked_sub(1) else {
+        return Value::Unknown;
+    };
+    match values.get(place) {
+        Some(byte) => Value::from(*byte),
+        None => Value::Unknown,
+    }
+}
+
+// Whether some of these literals is met. (A loop and not `any`: the project's form for this search.)
 fn any_met(literals: &[i32], values: &[u8]) -> bool
     ensures { result ≡ list_any (met values.now) literals.now }
 {
     for literal in literals {
-        if meets(*literal, value_of(values, literal.unsigned_abs())) {
+        if value_of(values, literal.unsigned_abs()).meets(*literal) {
             return true;
         }
     }

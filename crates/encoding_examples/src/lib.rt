@@ -207,7 +207,7 @@ mod tests {
         Ok(())
     }
 
-    // Whether a token of another sheet starts this one.
+    // Whether a token starts this sheet.
     fn starts<S: Sink>(sheet: &mut Sheet, token: DrawingToken, sink: &mut S) -> bool {
         match sheet.start(token, sink) {
             Ok(closing) => {

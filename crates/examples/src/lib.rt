@@ -52,6 +52,13 @@ mod tests {
         Ok(sheet)
     }
 
+    // A pipe of no verdict, in places that were not written.
+    const NINES: Pipe = Pipe {
+        from: 9,
+        to: 9,
+        valve: 9,
+    };
+
     // A verdict with the places and marks after it, which held nines before it.
     #[derive(Drop)]
     struct Judged {
@@ -65,11 +72,7 @@ mod tests {
     fn judge(values: &[u8]) -> Result<Judged, SheetRefusal> {
         let sheet = ring_of_three()?;
         let mut nodes = [9; 4];
-        let mut pipes = [Pipe {
-            from: 9,
-            to: 9,
-            valve: 9,
-        }; 4];
+        let mut pipes = [NINES; 4];
         let mut marks = [9; 4];
         let answer = judge_valves(
             &sheet,
@@ -110,11 +113,7 @@ mod tests {
         assert_eq!(rt; judged.nodes, [1, 2, 0, 9]);
         assert_eq!(rt;
             judged.pipes[0],
-            Pipe {
-                from: 9,
-                to: 9,
-                valve: 9,
-            }
+            NINES
         );
         Ok(())
     }
@@ -140,11 +139,7 @@ mod tests {
     fn too_few_places_are_refused(rt: HostRuntime) -> Result<(), Fail> {
         let sheet = ring_of_three()?;
         let mut node_places = [9; 3];
-        let mut pipe_places = [Pipe {
-            from: 9,
-            to: 9,
-            valve: 9,
-        }; 2];
+        let mut pipe_places = [NINES; 2];
         let mut marks = [5; 3];
         let mut nodes = Bounded::new(&mut node_places);
         let mut pipes = Bounded::new(&mut pipe_places);

@@ -1,7 +1,6 @@
 -- Value bytes: byte v − 1 belongs to valve v. Assumes nothing.
 --     is_open b                    a pipe on a valve with the byte b is open: 1 is open
 --     is_known b                   the byte tells a position: open, or shut, which is 2
---     position b                   the position that the byte tells, or unknown
 --     value values v               the byte of valve v, or 0 where there is none
 --     opens pipe values u w        an open pipe leads from u to w, where pipe gives each pair its valve, 0 for no pipe
 --     pair_valve n pipe i          the valve at the i-th pair of nodes below n, the pairs ascending
@@ -11,17 +10,12 @@ use Rattle.std.specs.Prelude.{ℕ, ◌-◌, ◌*◌, ◌/◌, ◌%◌, Bool, con
 use Rattle.graph.specs.Counts.{least}
 use Rattle.graph.specs.Walks.{Edges}
 use Rattle.sheet.specs.Tables.{Table}
-use Rattle.judge.specs.declared.open.Position.{Position}
-use Rattle.judge.specs.declared.open.Position.TheVariants.{Open, Shut, Unknown}
 
 abbrev pub is_open : ℕ → Bool
 is_open b = b == 1
 
 abbrev pub is_known : ℕ → Bool
 is_known b = is_open b || b == 2
-
-abbrev pub position : ℕ → Position
-position b = cond (is_open b) Open (cond (b == 2) Shut Unknown)
 
 abbrev pub value : List ℕ → ℕ → ℕ
 value values v = slice_index values (v - 1)

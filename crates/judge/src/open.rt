@@ -1,44 +1,17 @@
-// Which pipes are open, by the value bytes of their valves.
+// Which pipes are open, by the value bytes of their valves: what is true of a valve is that it is open.
 ghost use Rattle.std.specs.Prelude.{◌≡◌, if◌then◌else◌, Some, None};
-ghost use Rattle.judge.specs.Values.{first_unknown, is_known, is_open, is_unknown, opens, position};
+ghost use Rattle.judge.specs.Values.{first_unknown, is_open, is_unknown, opens};
 ghost use Rattle.sheet.specs.View.{view};
 
 use crate::digraph::Digraph;
-use cnf::meeting::value_of;
+use cnf::meeting::{Value, value_of};
 use sheet::place::Sheet;
-
-// The position of a valve, as its value byte tells it.
-#[derive(Clone, Copy, PartialEq, Eq, Debug)]
-enum Position {
-    Unknown,
-    Open,
-    Shut,
-}
-
-impl From<u8> for Position {
-    fn from(value: u8) -> Position
-        ensures { result ≡ position value }
-    {
-        match value {
-            1 => Position::Open,
-            2 => Position::Shut,
-            _ => Position::Unknown,
-        }
-    }
-}
 
 // Whether a pipe is open at the value byte of its valve: 1 is open.
 pub fn is_open(value: u8) -> bool
     ensures { result ≡ is_open value }
 {
-    Position::from(value) == Position::Open
-}
-
-// Whether a value byte tells a position: open, or shut, which is 2.
-fn is_known(value: u8) -> bool
-    ensures { result ≡ is_known value }
-{
-    Position::from(value) != Position::Unknown
+    Value::from(value) == Value::True
 }
 
 // The open pipes of a sheet.
@@ -60,7 +33,7 @@ impl<'s, 'v> Digraph for OpenPipes<'s, 'v> {
     fn leads(&self, u: u32, w: u32) -> bool {
         self.sheet
             .valve(u, w)
-            .is_some_and(|valve| is_open(value_of(self.values, valve)))
+            .is_some_and(|valve| value_of(self.values, valve) == Value::True)
     }
 }
 
@@ -71,7 +44,7 @@ impl OpenPipes<'_, '_> {
     {
         self.sheet
             .valve(u, w)
-            .filter(|valve| !is_known(value_of(self.values, *valve)))
+            .filter(|valve| value_of(self.values, *valve) == Value::Unknown)
     }
 
     // The first drawn valve, by ascending pairs of nodes, whose byte tells no position.

@@ -1,9 +1,13 @@
 -- Plans: one pair more, and the clause at a pair.
-use Rattle.std.proofs.Common.{◌≡◌, ℕ, ◌+◌, ◌*◌, ◌≤◌, true, false, cond, List, [], ◌∷◌, ◌++◌, map, filter, sym, refl, ap, ◌∙◌, arith}
-use Rattle.std.proofs.lemmas.Nat.{mul-le}
+use Rattle.std.proofs.Common.{◌≡◌, ℕ, Bool, ◌+◌, ◌*◌, ◌<◌, ◌≤◌, true, false, cond, List, [], ◌∷◌, ◌++◌, map, length, filter, sym, refl, ap, ◌∙◌, arith}
+use Rattle.std.proofs.lemmas.Nat.{div-mul-add, mod-mul-add, mul-le}
 use Rattle.std.proofs.lemmas.List.FromFn.{filter_of_map_range_with_len_more}
 use Rattle.std.proofs.lemmas.List.{append-nil}
 use Rattle.std.specs.List.{range_with_len}
+use Rattle.bounded.specs.Lists.{entries, room}
+use Rattle.bounded.specs.declared.Bounded.{Bounded}
+use Rattle.sheet.specs.Plans.{arcs_in}
+use Rattle.sheet.specs.declared.arcs.Arcs as memory
 use Rattle.sheet.specs.Implications.{Arcs, Premises, has_premises, implication, implications, pair_at, pairs_with, planned}
 use Rattle.sheet.specs.Implications.{with_arc, with_arcs}
 
@@ -18,22 +22,36 @@ pub with_arcs_push : (k : Arcs) (ps : List (ℕ × ℕ)) (p : ℕ × ℕ) → wi
 with_arcs_push k [] p = refl
 with_arcs_push k (q ∷ ps) p = with_arcs_push (with_arc k q) ps p
 
-module _ (ps : Premises) (n i : ℕ) where
-  done_more : done ps n (i + 1) ≡ done ps n i ++ cond (has_premises ps (pair_at n i)) (pair_at n i ∷ []) []
-  done_more = filter_of_map_range_with_len_more (has_premises ps) (pair_at n) 0 i i (omega arith)
+-- p is the next pair
+module _ (ps : Premises) (n i : ℕ) (p : ℕ × ℕ) (here : pair_at n i ≡ p) where
+  done_more : (b : Bool) → has_premises ps p ≡ b → done ps n (i + 1) ≡ done ps n i ++ cond b (pair_at n i ∷ []) []
+  done_more b h =
+      filter_of_map_range_with_len_more (has_premises ps) (pair_at n) 0 i i (omega arith)
+      ∙ ap (λ b. done ps n i ++ cond b (pair_at n i ∷ []) []) (ap (has_premises ps) here ∙ h)
 
   -- a pair without its premises is passed over
-  pub done_past : has_premises ps (pair_at n i) ≡ false → done ps n i ≡ done ps n (i + 1)
-  done_past h = sym (done_more ∙ ap (λ b. done ps n i ++ cond b (pair_at n i ∷ []) []) h ∙ append-nil (done ps n i))
+  pub done_past : has_premises ps p ≡ false → done ps n i ≡ done ps n (i + 1)
+  done_past h = sym (done_more false h ∙ append-nil (done ps n i))
 
   -- one with its premises is noted
-  pub done_noted : has_premises ps (pair_at n i) ≡ true → done ps n i ++ (pair_at n i ∷ []) ≡ done ps n (i + 1)
-  done_noted h = sym (done_more ∙ ap (λ b. done ps n i ++ cond b (pair_at n i ∷ []) []) h)
+  pub done_noted : has_premises ps p ≡ true → done ps n i ++ (p ∷ []) ≡ done ps n (i + 1)
+  done_noted h = ap (λ q. done ps n i ++ (q ∷ [])) (sym here) ∙ sym (done_more true h)
 
   pub arcs_noted
-      : (k : Arcs) → has_premises ps (pair_at n i) ≡ true
-      → with_arc (with_arcs k (done ps n i)) (pair_at n i) ≡ with_arcs k (done ps n (i + 1))
-  arcs_noted k h = sym (with_arcs_push k (done ps n i) (pair_at n i)) ∙ ap (with_arcs k) (done_noted h)
+      : (k : Arcs) → has_premises ps p ≡ true → with_arc (with_arcs k (done ps n i)) p ≡ with_arcs k (done ps n (i + 1))
+  arcs_noted k h = sym (with_arcs_push k (done ps n i) p) ∙ ap (with_arcs k) (done_noted h)
+
+-- the pairs below n, row by row
+pub pair_there : (n u w : ℕ) → w < n → pair_at n (u * n + w) ≡ (u, w)
+pair_there n u w h = λ i. (div-mul-add u n w h i, mod-mul-add u n w h i)
+
+-- once i pairs have been looked at, those with their premises are listed behind none, and have their arcs
+pub record Looked (ps : Premises) (n : ℕ) (before : memory.Arcs) (places i : ℕ) (arcs : memory.Arcs) (pairs : Bounded (ℕ × ℕ)) : Type 0 where
+  pub listed : entries pairs ≡ done ps n i
+  pub given : arcs_in arcs ≡ with_arcs (arcs_in before) (done ps n i)
+  pub few : length (entries pairs) ≤ i
+  pub next : arcs.next ≤ before.next + i
+  pub room : length (room pairs) ≡ places
 
 pub done_all : (ps : Premises) (n i : ℕ) → i ≡ n * n → done ps n i ≡ pairs_with ps n
 unfolding pairs_with

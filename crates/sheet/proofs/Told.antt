@@ -1,8 +1,8 @@
 -- The clauses at a list of pairs, told one by one, and the literals of an implication.
 use Rattle.std.specs.List.{slice_get}
-use Rattle.std.proofs.Common.{◌≡◌, ℕ, zero, suc, ◌+◌, ◌<◌, List, [], ◌∷◌, ◌++◌, map, length, get_or, pos, Some, sym, refl, ap, ◌∙◌, arith}
+use Rattle.std.proofs.Common.{◌≡◌, ℕ, suc, ◌+◌, ◌<◌, List, [], ◌∷◌, ◌++◌, map, length, get_or, pos, Some, sym, refl, ap, ◌∙◌, arith}
 use Rattle.cnf.specs.Clauses.{Clause, minus}
-use Rattle.std.proofs.lemmas.List.{length-map}
+use Rattle.std.proofs.lemmas.List.{get_or-map, length-map}
 use Rattle.std.proofs.lemmas.Bool.{ne_eqb}
 use Rattle.sheet.specs.Implications.{Premises, implication}
 use Rattle.sheet.specs.Tables.{Table, entry}
@@ -11,9 +11,7 @@ abbrev pub clause_at : Premises → Table → ℕ × ℕ → Clause
 clause_at ps t p = implication (ps p.0 p.1) t p
 
 pub clause_told : {X : Type 0} (f : X → Clause) (xs : List X) (k : ℕ) (x : X) → k < length xs → x ≡ get_or xs k x → get_or (map f xs) k [] ≡ f x
-clause_told f [] k x h e = absurd (omega arith)
-clause_told f (y ∷ xs) zero x h e = ap f (sym e)
-clause_told f (y ∷ xs) (suc k) x h e = clause_told f xs k x (omega arith) e
+clause_told f xs k x h e = get_or-map f xs k x [] h ∙ ap f (sym e)
 
 -- a number of a table that is there
 pub entry_there : (x : ℕ) → 0 < x → entry x ≡ Some x

@@ -22,7 +22,7 @@ impl Arcs {
         ensures next { self.new.next ≤ self.old.next + 1 }
     {
         if u != w && self.variables.get(u, w).is_none() {
-            self.variables.set(u, w, self.next);
+            self.variables.set(u, w, Some(self.next));
             self.next += 1;
         }
     }

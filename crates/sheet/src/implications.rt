@@ -54,7 +54,7 @@ impl Body {
 
 // Which premises a clause has at each pair of nodes.
 pub(crate) trait Rule {
-    // the variables, 0 for one that is not there
+    // the variables, 0 for one that is not there, as in the sheet's view
     ghost premises: { Self → ℕ → ℕ → List ℕ };
 
     // The premises at the pair (u, w), or none where one of them is not there.
@@ -75,12 +75,12 @@ fn plan<R: Rule>(rule: &R, nodes: u32, arcs: &mut Arcs, pairs: &mut Bounded<'_, 
     ensures next { arcs.new.next ≤ arcs.old.next + 4096 }
     ensures few { length (entries pairs.new) ≤ 4096 }
 {
-    // the i-th pair, ascending
-    for i in 0..nodes * nodes {
-        let (u, w) = (i / nodes, i % nodes);
-        if rule.body(u, w).is_some() {
-            let _ = pairs.push((u, w));
-            arcs.give(u, w);
+    for u in 0..nodes {
+        for w in 0..nodes {
+            if rule.body(u, w).is_some() {
+                let _ = pairs.push((u, w));
+                arcs.give(u, w);
+            }
         }
     }
 }
@@ -128,7 +128,9 @@ impl<'p, R: Rule> Formula for Planned<'p, R> {
     }
 }
 
-// Writes the clauses of a rule to a sink, all or none, and gives the arcs as they are then.
+// Writes the clauses of a rule to a sink, all or none, and gives the arcs as they are then. (What this
+// and the four calls above it say of the sink stays clause by clause: one definition would have to be
+// given the state, the clauses and the names of S before and after, and would be no shorter.)
 pub(crate) fn write_planned<R: Rule, S: Sink>(
     sheet: &Sheet,
     rule: &R,

@@ -1,11 +1,11 @@
 // Numbers for the ordered pairs of 64 nodes: the valves of pipes, the variables of arcs.
-ghost use Rattle.std.specs.Prelude.{◌≡◌, ◌<◌};
+ghost use Rattle.std.specs.Prelude.{◌≡◌, ◌<◌, unwrap_or};
 ghost use Rattle.sheet.specs.Tables.{blank, entry, put, table, without};
 
 #[derive(Clone, Copy)]
 pub(crate) struct PairTable {
     // 64 rows of 64 places, so that ascending places are ascending pairs; 0 for none: an array of
-    // `Option<u32>` would take twice the memory
+    // `Option<u32>` would take twice the fixed memory of every sheet, and `Option<NonZeroU32>` here too
     pub(crate) numbers: [u32; 4096],
 }
 
@@ -30,12 +30,12 @@ impl PairTable {
         }
     }
 
-    // Writes a number, or 0 for none.
-    pub(crate) fn set(&mut self, u: u32, w: u32, number: u32)
+    // Writes a number, or none.
+    pub(crate) fn set(&mut self, u: u32, w: u32, number: Option<u32>)
         requires { (u < 64) × (w < 64) }
-        ensures { table self.new.numbers ≡ put (table self.old.numbers) u w number }
+        ensures { table self.new.numbers ≡ put (table self.old.numbers) u w (unwrap_or number 0) }
     {
-        self.numbers[u as usize * 64 + w as usize] = number;
+        self.numbers[u as usize * 64 + w as usize] = number.unwrap_or(0);
     }
 
     // Clears the pairs with the node v.
@@ -45,8 +45,8 @@ impl PairTable {
     {
         // k is a node: its pair with v stands in v's row, and in its own
         for k in 0..64 {
-            self.set(v, k, 0);
-            self.set(k, v, 0);
+            self.set(v, k, None);
+            self.set(k, v, None);
         }
     }
 }

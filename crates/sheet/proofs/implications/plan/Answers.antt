@@ -1,58 +1,100 @@
-use Rattle.std.proofs.Common.{◌≡◌, ◌*◌, ◌<◌, [], ◌∷◌, ◌++◌, length, if◌then◌else◌, set, sym, ap, ◌∙◌, arith, length-append}
+use Rattle.std.proofs.Common.{◌≡◌, ℕ, ◌+◌, ◌*◌, ◌<◌, [], ◌∷◌, ◌++◌, length, if◌then◌else◌, set, subst, sym, refl, ap, ◌∙◌, arith, length-append}
 use Rattle.std.proofs.lemmas.List.{length-set}
 use Rattle.std.proofs.lemmas.Bool.{lt-ltb}
+use Rattle.std.proofs.lemmas.Nat.{mul-add-lt}
 use Rattle.bounded.specs.Lists.{entries, room}
 use Rattle.bounded.specs.declared.Bounded.{Bounded}
-use Rattle.sheet.specs.Implications.{pair_at, with_arc, with_arcs}
+use Rattle.sheet.specs.Implications.{with_arc, with_arcs}
 use Rattle.sheet.specs.Plans.{arcs_in}
 use Rattle.sheet.specs.declared.arcs.Arcs as memory
-use Rattle.sheet.proofs.Plans.{arcs_noted, done_all, done_noted, done_past, few_pairs, planned_is}
+use Rattle.sheet.proofs.Plans.{Looked, arcs_noted, done, done_all, done_noted, done_past, few_pairs, pair_there, planned_is}
 use Rattle.sheet.proofs.implications.plan.Goals as goal
 use Rattle.sheet.proofs.implications.plan.Goals.{else-is_some, then-is_some}
 
+pub loop-u-init : goal.loop-u-init
+loop-u-init g c =
+    let z : 0 ≡ 0 * c.args.nodes = omega arith in
+    subst (λ i. Looked (g.R.Rule.premises c.args.rule.now) c.args.nodes c.args.arcs.now (length (room c.args.pairs.now)) i c.args.arcs.now c.args.pairs.now) z
+    (record {
+      listed = c.requires.places.0;
+      given = refl;
+      few = omega (arith, ap length c.requires.places.0);
+      next = omega arith;
+      room = refl;
+    })
+
+pub loop-w-init : goal.loop-w-init
+loop-w-init g c =
+    let z : c.loop-u.u * c.args.nodes ≡ c.loop-u.u * c.args.nodes + 0 = omega arith in
+    subst (λ i. Looked (g.R.Rule.premises c.args.rule.now) c.args.nodes c.args.arcs.now (length (room c.args.pairs.now)) i c.loop-u.arcs c.loop-u.pairs) z c.loop-u.invariant
+
 pub give-requires-clause-room : goal.give-requires-clause-room
 give-requires-clause-room g c =
-    let inv = c.loop-i.invariant in
-    omega (arith, few_pairs c.args.nodes c.requires.nodes, inv.3, c.requires.variables, c.loop-i-test.true)
+    let inside = mul-add-lt c.loop-u.u c.args.nodes c.loop-w.w c.args.nodes c.loop-u-test.true c.loop-w-test.true in
+    omega (arith, few_pairs c.args.nodes c.requires.nodes, c.loop-w.invariant.next, c.requires.variables, inside)
 
-pub loop-i-preserved : goal.loop-i-preserved
-loop-i-preserved g c =
-    let inv = c.loop-i.invariant in
+pub loop-w-preserved : goal.loop-w-preserved
+loop-w-preserved g c =
+    let inv = c.loop-w.invariant in
     let ps = g.R.Rule.premises c.args.rule.now in
     let n = c.args.nodes in
-    let i = c.loop-i.i in
+    let i = c.loop-u.u * n + c.loop-w.w in
+    let before = arcs_in c.args.arcs.now in
+    let pair : ℕ × ℕ = (c.loop-u.u, c.loop-w.w) in
+    let here = pair_there n c.loop-u.u c.loop-w.w c.loop-w-test.true in
+    let later : i + 1 ≡ c.loop-u.u * n + (c.loop-w.w + 1) = omega arith in
     elim c.if-is_some.branch [
       | then-is_some x ↦
           let there = sym c.body.ensures.there ∙ sym x.if-is_some.ensures in
-          let few = few_pairs c.args.nodes c.requires.nodes in
-          let left : length (entries c.loop-i.pairs) < length (room c.loop-i.pairs) =
-          omega (arith, few, inv.2, inv.4, c.requires.places.1, c.loop-i-test.true) in
+          let few = few_pairs n c.requires.nodes in
+          let inside = mul-add-lt c.loop-u.u n c.loop-w.w n c.loop-u-test.true c.loop-w-test.true in
+          let left : length (entries c.loop-w.pairs) < length (room c.loop-w.pairs) =
+          omega (arith, few, inv.few, inv.room, c.requires.places.1, inside) in
           let ok = x.push.ensures.test ∙ lt-ltb _ _ left in
-          let noted = x.push.ensures.entries ∙ ap (λ b. if b then entries c.loop-i.pairs ++ (pair_at n i ∷ []) else entries c.loop-i.pairs) ok in
-          let kept = x.push.ensures.room ∙ ap (λ b. if b then set (room c.loop-i.pairs) (length (entries c.loop-i.pairs)) (pair_at n i) else room c.loop-i.pairs) ok in (
-            ap entries x.pairs-is ∙ noted ∙ ap (λ qs. qs ++ (pair_at n i ∷ [])) inv.0 ∙ done_noted ps n i there,
-            ap arcs_in x.arcs-is ∙ x.give.ensures.arcs ∙ ap (λ k. with_arc k (pair_at n i)) inv.1 ∙ arcs_noted ps n i (arcs_in c.args.arcs.now) there,
-            omega (arith, ap (λ (b : Bounded _). length (entries b)) x.pairs-is, ap length noted, length-append (entries c.loop-i.pairs) (pair_at n i ∷ []), inv.2),
-            omega (arith, ap (λ (a : memory.Arcs). a.next) x.arcs-is, x.give.ensures.next, inv.3),
-            ap (λ (b : Bounded _). length (room b)) x.pairs-is ∙ ap length kept ∙ length-set _ _ _ ∙ inv.4,
-          )
+          let noted = x.push.ensures.entries ∙ ap (λ b. if b then entries c.loop-w.pairs ++ (pair ∷ []) else entries c.loop-w.pairs) ok in
+          let kept = x.push.ensures.room ∙ ap (λ b. if b then set (room c.loop-w.pairs) (length (entries c.loop-w.pairs)) pair else room c.loop-w.pairs) ok in
+          record {
+            listed = ap entries x.pairs-is ∙ noted ∙ ap (λ qs. qs ++ (pair ∷ [])) inv.listed ∙ done_noted ps n i pair here there ∙ ap (done ps n) later;
+            given = ap arcs_in x.arcs-is ∙ x.give.ensures.arcs ∙ ap (λ k. with_arc k pair) inv.given ∙ arcs_noted ps n i pair here before there ∙ ap (λ j. with_arcs before (done ps n j)) later;
+            few = omega (arith, ap (λ (b : Bounded _). length (entries b)) x.pairs-is, ap length noted, length-append (entries c.loop-w.pairs) (pair ∷ []), inv.few);
+            next = omega (arith, ap (λ (a : memory.Arcs). a.next) x.arcs-is, x.give.ensures.next, inv.next);
+            room = ap (λ (b : Bounded _). length (room b)) x.pairs-is ∙ ap length kept ∙ length-set _ _ _ ∙ inv.room;
+          }
       | else-is_some x ↦
-          let past = done_past ps n i (sym c.body.ensures.there ∙ sym x.if-is_some.ensures) in (
-            ap entries x.pairs-is ∙ inv.0 ∙ past,
-            ap arcs_in x.arcs-is ∙ inv.1 ∙ ap (with_arcs (arcs_in c.args.arcs.now)) past,
-            omega (arith, ap (λ (b : Bounded _). length (entries b)) x.pairs-is, inv.2),
-            omega (arith, ap (λ (a : memory.Arcs). a.next) x.arcs-is, inv.3),
-            ap (λ (b : Bounded _). length (room b)) x.pairs-is ∙ inv.4,
-          )
+          let past = done_past ps n i pair here (sym c.body.ensures.there ∙ sym x.if-is_some.ensures) in
+          record {
+            listed = ap entries x.pairs-is ∙ inv.listed ∙ past ∙ ap (done ps n) later;
+            given = ap arcs_in x.arcs-is ∙ inv.given ∙ ap (with_arcs before) past ∙ ap (λ j. with_arcs before (done ps n j)) later;
+            few = omega (arith, ap (λ (b : Bounded _). length (entries b)) x.pairs-is, inv.few);
+            next = omega (arith, ap (λ (a : memory.Arcs). a.next) x.arcs-is, inv.next);
+            room = ap (λ (b : Bounded _). length (room b)) x.pairs-is ∙ inv.room;
+          }
     ]
+
+pub loop-u-preserved : goal.loop-u-preserved
+loop-u-preserved g c =
+    let n = c.args.nodes in
+    let e : c.loop-w.w ≡ n = omega arith in
+    let z : c.loop-u.u * n + c.loop-w.w ≡ (c.loop-u.u + 1) * n = omega arith in
+    subst (λ i. Looked (g.R.Rule.premises c.args.rule.now) n c.args.arcs.now (length (room c.args.pairs.now)) i c.loop-w.arcs c.loop-w.pairs) z c.loop-w.invariant
 
 pub returns-clause-pairs : goal.returns-clause-pairs
 returns-clause-pairs g c =
-    let e : c.loop-i.i ≡ c.args.nodes * c.args.nodes = omega arith in
-    c.loop-i.invariant.0 ∙ done_all (g.R.Rule.premises c.args.rule.now) c.args.nodes c.loop-i.i e
+    let e : c.loop-u.u ≡ c.args.nodes = omega arith in
+    c.loop-u.invariant.listed ∙ done_all (g.R.Rule.premises c.args.rule.now) c.args.nodes (c.loop-u.u * c.args.nodes) (ap (λ u. u * c.args.nodes) e)
 
 pub returns-clause-arcs : goal.returns-clause-arcs
 returns-clause-arcs g c =
     let ps = g.R.Rule.premises c.args.rule.now in
-    let e : c.loop-i.i ≡ c.args.nodes * c.args.nodes = omega arith in
-    c.loop-i.invariant.1 ∙ ap (with_arcs _) (done_all ps c.args.nodes c.loop-i.i e) ∙ planned_is ps c.args.nodes _
+    let e : c.loop-u.u ≡ c.args.nodes = omega arith in
+    c.loop-u.invariant.given ∙ ap (with_arcs _) (done_all ps c.args.nodes (c.loop-u.u * c.args.nodes) (ap (λ u. u * c.args.nodes) e)) ∙ planned_is ps c.args.nodes _
+
+pub returns-clause-next : goal.returns-clause-next
+returns-clause-next g c =
+    let e : c.loop-u.u ≡ c.args.nodes = omega arith in
+    omega (arith, c.loop-u.invariant.next, few_pairs c.args.nodes c.requires.nodes, ap (λ u. u * c.args.nodes) e)
+
+pub returns-clause-few : goal.returns-clause-few
+returns-clause-few g c =
+    let e : c.loop-u.u ≡ c.args.nodes = omega arith in
+    omega (arith, c.loop-u.invariant.few, few_pairs c.args.nodes c.requires.nodes, ap (λ u. u * c.args.nodes) e)

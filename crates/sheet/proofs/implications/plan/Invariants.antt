@@ -1,13 +1,14 @@
-use Rattle.std.proofs.Common.{◌≡◌, ◌+◌, ◌≤◌, length}
-use Rattle.bounded.specs.Lists.{entries, room}
-use Rattle.sheet.specs.Implications.{with_arcs}
-use Rattle.sheet.specs.Plans.{arcs_in}
-use Rattle.sheet.proofs.Plans.{done}
+use Rattle.std.proofs.Common.{◌+◌, ◌*◌, length}
+use Rattle.bounded.specs.Lists.{room}
+use Rattle.sheet.proofs.Plans.{Looked}
 use Rattle.sheet.proofs.implications.plan.Given as goal
 
--- the pairs done so far are listed, and have their arcs
-abbrev pub invariant-loop-i : goal.invariant-loop-i
-invariant-loop-i g l =
-    let pairs = done (g.R.Rule.premises l.rule) l.nodes l.i in
-    (entries l.pairs ≡ pairs) × (arcs_in l.arcs ≡ with_arcs (arcs_in l.initial.arcs) pairs)
-    × (length (entries l.pairs) ≤ l.i) × (l.arcs.next ≤ l.initial.arcs.next + l.i) × (length (room l.pairs) ≡ length (room l.initial.pairs))
+-- the pairs of the rows above u have been looked at
+abbrev pub invariant-loop-u : goal.invariant-loop-u
+invariant-loop-u g l =
+    Looked (g.R.Rule.premises l.rule) l.nodes l.fn.arcs (length (room l.fn.pairs)) (l.u * l.nodes) l.arcs l.pairs
+
+-- and those of row u up to w
+abbrev pub invariant-loop-w : goal.invariant-loop-w
+invariant-loop-w g l =
+    Looked (g.R.Rule.premises l.rule) l.nodes l.fn.arcs (length (room l.fn.pairs)) (l.u * l.nodes + l.w) l.arcs l.pairs
