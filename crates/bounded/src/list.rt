@@ -1,5 +1,6 @@
-// What is done with a list. Each method hands the slice to a function, so that the caller still knows
-// every place of its buffer once the list is gone.
+// What is done with a list. A method that writes hands the slice to a function, so that the caller
+// still knows every place of its buffer once the list is gone; what becomes of the loan's name is
+// said call by call, since no fact about one list can name the list before it.
 ghost use Rattle.std.specs.Prelude.{◌≡◌, ◌+◌, ◌-◌, ◌<◌, ◌≤◌, [], ◌∷◌, ◌++◌, length, take, drop, is_ok, IfErr, if◌then◌else◌, Some, MatchResult, nat_le, nat_lt, slice_set, slice_get};
 ghost use Rattle.bounded.specs.Lists.{entries, room};
 ghost use Rattle.bounded.specs.Refusals.{entry_back};

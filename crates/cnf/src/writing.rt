@@ -36,7 +36,9 @@ struct ShortClauses<'f, F: Formula> {
 }
 
 impl<'f, F: Formula> ShortClauses<'f, F> {
-    // Copies clause k to the front of the buffer: its length.
+    // Copies clause k to the front of the buffer: its length. (Not the slice: one out of `&mut self` is
+    // not had beside a clause on what `self` is then. Nor is what each of these leaves of the source a
+    // fact about one value.)
     fn load(&mut self, k: u32) -> usize
         ensures clause { take result self.new.buffer ≡ slice_index_or (F.Formula.clauses self.old.source.now) k [] }
         ensures few { result ≤ 256 }

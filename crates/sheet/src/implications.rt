@@ -114,6 +114,8 @@ impl<'p, R: Rule> Formula for Planned<'p, R> {
         }
     }
 
+    // (A cast for each of two signs: a variable with methods for them, as the closings have, would be
+    // one more type for a crate below both.)
     fn literal(&mut self, k: u32, j: u32) -> Option<i32> {
         let (u, w) = *self.pairs.get(k as usize)?;
         let body = self.rule.body(u, w)?;

@@ -17,7 +17,8 @@ impl PairTable {
         PairTable { numbers: [0; 4096] }
     }
 
-    // The number at the pair (u, w), or none.
+    // The number at the pair (u, w), or none. (A pair's nodes come one by one, as the public questions
+    // of a sheet take them.)
     pub(crate) fn get(&self, u: u32, w: u32) -> Option<u32>
         ensures { result ≡ entry (table self.now.numbers u w) }
     {

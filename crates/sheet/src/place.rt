@@ -21,7 +21,8 @@ pub struct Sheet {
     pub(crate) pipes: PairTable,
     // the arcs, and the next free variable
     pub(crate) arcs: Arcs,
-    // whether each node has been eliminated
+    // whether each node has been eliminated; the nodes are the first of the 64, since a sheet lies in
+    // fixed memory
     pub(crate) out: [bool; 64],
     ghost nodes_few: { (1 ≤ nodes) × (nodes ≤ 64) },
     ghost valves_few: { (1 ≤ valves) × (valves ≤ 60000) },
