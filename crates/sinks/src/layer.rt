@@ -88,7 +88,7 @@ impl<S: Sink, L: Layer> Formula for Layered<S, L> {
 
     #[tactic(auto, using(crate::proofs::Piles::literal_told, crate::proofs::Piles::literal_untold))]
     fn literal(&mut self, k: u32, j: u32) -> Option<i32> {
-        let n = self.length(k).unwrap_or(0);
+        let n = self.length(k)?;
         if j >= n {
             return None;
         }

@@ -44,7 +44,8 @@ fn lower(literal: i32, shift: u32) -> i32
     }
 }
 
-// The clause with its variables moved up, at the front of `out`.
+// The clause with its variables moved up, at the front of `out`. (Not by `out.iter_mut().zip(clause)`:
+// once such a loop is over, a proof knows how many places there are and not what they hold.)
 #[tactic(auto, using(crate::proofs::Offsets::raised_within))]
 fn raise_all(clause: &[i32], top: u32, shift: u32, out: &mut [i32])
     requires bound { top ≤ 1_073_741_823 }
