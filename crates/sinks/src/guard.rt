@@ -1,6 +1,6 @@
 // A guard adds its literal at the end of every clause for the sink below, so that the clauses bind
 // only where that literal is false, and reads each clause below without its last literal.
-ghost use Rattle.std.specs.Prelude.{◌≡◌, ◌+◌, ◌-◌, ◌<◌, [], ◌∷◌, ◌++◌, length, take};
+ghost use Rattle.std.specs.Prelude.{◌≡◌, ◌<◌, [], ◌∷◌, ◌++◌, length};
 ghost use Rattle.cnf.specs.States.{guard};
 ghost use Rattle.sinks.specs.Layers.{guarded};
 
@@ -15,16 +15,15 @@ pub struct GuardLiteral {
     literal: i32,
 }
 
-// The clause and one literal more, at the front of `out`: how many they are.
-fn put_onto(clause: &[i32], literal: i32, out: &mut [i32]) -> usize
-    requires { length clause.now < length out.old }
-    ensures value { result ≡ length clause.now + 1 }
-    ensures copied { take result out.new ≡ clause.now ++ (literal ∷ []) }
+// The clause and one literal more, which lie at the front of `out`.
+fn put_onto<'o>(clause: &[i32], literal: i32, out: &'o mut [i32; 256]) -> &'o [i32]
+    requires { length clause.now < 256 }
+    ensures { result.now ≡ clause.now ++ (literal ∷ []) }
 {
     let n = clause.len();
-    out[0..n].copy_from_slice(clause);
+    out[..n].copy_from_slice(clause);
     out[n] = literal;
-    n + 1
+    &out[..=n]
 }
 
 impl Layer for GuardLiteral {
@@ -40,7 +39,7 @@ impl Layer for GuardLiteral {
         }
     }
 
-    fn store(&self, clause: &[i32], below: (u32, u32), out: &mut [i32]) -> usize {
+    fn store<'o>(&self, clause: &[i32], below: (u32, u32), out: &'o mut [i32; 256]) -> &'o [i32] {
         put_onto(clause, self.literal, out)
     }
 

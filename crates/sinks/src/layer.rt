@@ -1,6 +1,6 @@
 // A layer lies between two sinks: it says what limits the sink above has, how a clause is stored
 // below, and how a clause below is read. Every layer makes a sink over every sink in the same way.
-ghost use Rattle.std.specs.Prelude.{◌≡◌, ◌≤◌, map, length, take, None, IfOk};
+ghost use Rattle.std.specs.Prelude.{◌≡◌, ◌≤◌, map, length, None, IfOk};
 ghost use Rattle.cnf.specs.States.{Layer, form_refusal};
 ghost use Rattle.sinks.specs.Layers.{layer_longest, layer_top, layered, read_by, read_literal, shown, stored_by};
 ghost use Rattle.std.specs.Result.{result_err};
@@ -19,13 +19,11 @@ pub(crate) trait Layer: Copy {
         ensures top { result.0 ≡ layer_top (layer self.now) below.0 }
         ensures longest { result.1 ≡ layer_longest (layer self.now) below.0 below.1 };
 
-    // Copies a clause that it takes to the front of `out`, as it is stored below: how many literals.
-    fn store(&self, clause: &[i32], below: (u32, u32), out: &mut [i32]) -> usize
+    // A clause that it takes as it is stored below, which lies at the front of `out`.
+    fn store<'o>(&self, clause: &[i32], below: (u32, u32), out: &'o mut [i32; 256]) -> &'o [i32]
         requires bounds { (below.0 ≤ 1_073_741_823) × (below.1 ≤ 256) }
         requires taken { form_refusal (layer_top (layer self.now) below.0) (layer_longest (layer self.now) below.0 below.1) clause.now ≡ None }
-        requires room { 256 ≤ length out.old }
-        ensures within { result ≤ length out.old }
-        ensures stored { take result out.new ≡ stored_by (layer self.now) clause.now };
+        ensures { result.now ≡ stored_by (layer self.now) clause.now };
 
     // How many literals it reads of a clause of `n`.
     fn shown(&self, n: u32) -> u32
@@ -59,11 +57,14 @@ impl<S: Sink, L: Layer> Layered<S, L> {
         below
     }
 
-    // The clause as it is stored below, at the front of `out`, and its length.
-    fn stored(&mut self, clause: &[i32], out: &mut [i32]) -> Result<usize, SinkRefusal>
-        requires { 256 ≤ length out.old }
+    // The clause as it is stored below, which lies at the front of `out`.
+    fn stored<'o>(
+        &mut self,
+        clause: &[i32],
+        out: &'o mut [i32; 256],
+    ) -> Result<&'o [i32], SinkRefusal>
         ensures answer { result_err result ≡ form_refusal (layer_top (L.Layer.layer self.old.layer) (S.Sink.state self.old.below).top) (layer_longest (L.Layer.layer self.old.layer) (S.Sink.state self.old.below).top (S.Sink.state self.old.below).longest) clause.now }
-        ensures stored { IfOk result (λ n. (n ≤ length out.old) × (take n out.new ≡ stored_by (L.Layer.layer self.old.layer) clause.now)) }
+        ensures stored { IfOk result (λ c. c.now ≡ stored_by (L.Layer.layer self.old.layer) clause.now) }
         ensures same { self.new ≡ self.old }
     {
         let below = self.below.limits();
@@ -88,7 +89,7 @@ impl<S: Sink, L: Layer> Formula for Layered<S, L> {
 
     #[tactic(auto, using(crate::proofs::Piles::literal_told, crate::proofs::Piles::literal_untold))]
     fn literal(&mut self, k: u32, j: u32) -> Option<i32> {
-        let n = self.length(k).unwrap_or(0);
+        let n = self.length(k)?;
         if j >= n {
             return None;
         }
@@ -116,7 +117,7 @@ impl<S: Sink, L: Layer> Sink for Layered<S, L> {
     fn cost(&mut self, clause: &[i32]) -> u32 {
         let mut buffer = [0; 256];
         match self.stored(clause, &mut buffer) {
-            Ok(n) => self.below.cost(&buffer[0..n]),
+            Ok(stored) => self.below.cost(stored),
             Err(_) => 0,
         }
     }
@@ -124,7 +125,7 @@ impl<S: Sink, L: Layer> Sink for Layered<S, L> {
     #[tactic(auto, using(crate::proofs::Piles::layer_answer, crate::proofs::Piles::layer_appended, crate::proofs::Piles::layer_after))]
     fn add(&mut self, clause: &[i32]) -> Result<(), SinkRefusal> {
         let mut buffer = [0; 256];
-        let n = self.stored(clause, &mut buffer)?;
-        self.below.add(&buffer[0..n])
+        let stored = self.stored(clause, &mut buffer)?;
+        self.below.add(stored)
     }
 }

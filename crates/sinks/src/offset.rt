@@ -1,6 +1,6 @@
 // An offset adds its shift to every variable for the sink below, and reads a variable above the
 // shift as that much less and any other unchanged.
-ghost use Rattle.std.specs.Prelude.{◌≡◌, ◌+◌, ◌-◌, ◌≤◌, false, map, length, take, unsigned_abs};
+ghost use Rattle.std.specs.Prelude.{◌≡◌, ◌+◌, ◌-◌, ◌≤◌, false, map, length, unsigned_abs};
 ghost use Rattle.cnf.specs.Clauses.{has_bad_literal};
 ghost use Rattle.cnf.specs.States.{lowered, offset, raised};
 ghost use Rattle.sinks.specs.Layers.{shifted};
@@ -44,17 +44,20 @@ fn lower(literal: i32, shift: u32) -> i32
     }
 }
 
-// The clause with its variables moved up, at the front of `out`.
+// The clause with its variables moved up, which lies at the front of `out`. (Not by
+// `out.iter_mut().zip(clause)`: once such a loop is over, a proof knows how many places there are
+// and not what they hold.)
 #[tactic(auto, using(crate::proofs::Offsets::raised_within))]
-fn raise_all(clause: &[i32], top: u32, shift: u32, out: &mut [i32])
+fn raise_all<'o>(clause: &[i32], top: u32, shift: u32, out: &'o mut [i32; 256]) -> &'o [i32]
     requires bound { top ≤ 1_073_741_823 }
     requires fits { has_bad_literal (top - shift) clause.now ≡ false }
-    requires room { length clause.now ≤ length out.old }
-    ensures { take (length clause.now) out.new ≡ map (raised shift) clause.now }
+    requires room { length clause.now ≤ 256 }
+    ensures { result.now ≡ map (raised shift) clause.now }
 {
     for (i, &literal) in clause.iter().enumerate() {
         out[i] = raise(literal, shift);
     }
+    &out[..clause.len()]
 }
 
 impl Layer for OffsetShift {
@@ -65,9 +68,8 @@ impl Layer for OffsetShift {
         (top.saturating_sub(self.shift), longest)
     }
 
-    fn store(&self, clause: &[i32], below: (u32, u32), out: &mut [i32]) -> usize {
-        raise_all(clause, below.0, self.shift, out);
-        clause.len()
+    fn store<'o>(&self, clause: &[i32], below: (u32, u32), out: &'o mut [i32; 256]) -> &'o [i32] {
+        raise_all(clause, below.0, self.shift, out)
     }
 
     fn shown(&self, n: u32) -> u32 {

@@ -15,6 +15,10 @@ const TOP: u32 = 1_073_741_823;
 
 const LONGEST: u32 = 256;
 
+const MOST_CLAUSES: usize = 1_000_000;
+
+const MOST_LITERALS: usize = 1_073_741_824;
+
 // Two slices with their lengths, and not two `Bounded` lists: a table of those was proved too, but its
 // caller then no longer knew what its buffers hold, as of any loan in a struct inside a struct.
 #[derive(Drop)]
@@ -30,16 +34,16 @@ pub struct TableSink<'a> {
     ghost few_entries: { count ≤ 1_000_000 },
 }
 
-// Copies a clause to the store, from the place `at` on.
+// Stores a clause behind the first `at` literals: the one bounded list, taken up again over them.
 fn store(literals: &mut [i32], at: usize, clause: &[i32])
     requires { at + length clause.now ≤ length literals.old }
     ensures { literals.new ≡ behind at clause.now literals.old }
 {
-    let n = clause.len();
-    literals[at..at + n].copy_from_slice(clause);
+    let mut list = Bounded::resume(literals, at);
+    list.extend_from_slice(clause).unwrap();
 }
 
-// Lists one pair more behind the first `count`: the one bounded list, taken up again over the pairs.
+// Lists one pair more behind the first `count`, by such a list over the pairs.
 fn list_pair(pairs: &mut [(u32, u32)], count: usize, pair: (u32, u32))
     requires { count < length pairs.old }
     ensures { pairs.new ≡ slice_set pairs.old count pair }
@@ -81,8 +85,8 @@ impl<'a> TableSink<'a> {
         ensures entries { result.0 ≡ min (length self.now.pairs.now) 1_000_000 - self.now.count }
         ensures units { result.1 ≡ min (length self.now.literals.now) 1_073_741_824 - self.now.used }
     {
-        let entries = self.pairs.len().min(1_000_000) - self.count;
-        let units = self.literals.len().min(1_073_741_824) - self.used;
+        let entries = self.pairs.len().min(MOST_CLAUSES) - self.count;
+        let units = self.literals.len().min(MOST_LITERALS) - self.used;
         (entries as u32, units as u32)
     }
 
