@@ -7,20 +7,16 @@ use judge::report::Report;
 use judge::verdict::judge_valves;
 use sheet::pipe::Pipe;
 use sheet::place::Sheet;
-use std::io;
+use std::{array, io};
 use trials::{Sequence, draw_some};
 
 // Values of ten valves: mostly open, some shut, a few unknown.
 fn read_valves(numbers: &mut Sequence) -> [u8; 10] {
-    let mut values = [1; 10];
-    for value in values.iter_mut() {
-        *value = match numbers.below(24) {
-            0 => 0,
-            1..=5 => 2,
-            _ => 1,
-        };
-    }
-    values
+    array::from_fn(|_| match numbers.below(24) {
+        0 => 0,
+        1..=5 => 2,
+        _ => 1,
+    })
 }
 
 // Prints the verdict on a sheet and some values.
