@@ -99,7 +99,9 @@ fn draw(
     }
 }
 
-// Judges one reading of the valves, and prints it with the verdict.
+// Judges one reading of the valves, and prints it with the verdict. (Verdicts has a like function,
+// for another size and another line: what is alike is the call, and one for both could promise
+// nothing but to print.)
 fn judge(rt: &HostRuntime, sheet: &Sheet, values: &[u8]) -> io::Result<()> {
     let mut node_places = [0; 6];
     let mut pipe_places = [Pipe::default(); 6];
@@ -122,7 +124,8 @@ fn add<S: Sink>(rt: &HostRuntime, sink: &mut S, clause: &[i32]) -> io::Result<()
     }
 }
 
-// Prints clause k as a formula reads it.
+// Prints clause k as a formula reads it. (Encodings has a like function, for shorter clauses and
+// another line: what is alike is the call, and one for both could promise nothing but to print.)
 fn tell_clause<F: Formula>(
     rt: &HostRuntime,
     name: &str,
