@@ -54,7 +54,8 @@ fn eliminate_some<S: Sink>(
     Ok(())
 }
 
-// Prints clause k.
+// Prints clause k. (The line-up has a like function, for longer clauses and another line: what is
+// alike is the call, and one for both could promise nothing but to print.)
 fn print_clause<F: Formula>(rt: &HostRuntime, formula: &mut F, k: u32) -> io::Result<()> {
     let mut buffer = [0; 4];
     let n = formula.copy_literals(k, 0, &mut buffer);

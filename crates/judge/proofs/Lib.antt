@@ -1,6 +1,7 @@
 pub mod Cleared
 pub mod DistinctLists
 pub mod First
+mod Lowest
 pub mod Found
 pub mod OrderLaw
 pub mod Replaced

@@ -31,13 +31,14 @@ module _ (r : Edges) (n : ℕ) (unplaced : ℕ → Bool) (k : ℕ) (trail : List
       let t : ltb (place trail u) (length trail) ≡ false = le-ltb _ _ h in
       rw (← is, t) refl
 
--- where the walk back stands after so many steps: the path from the place 64 − step on is its trail, and the rest of the
--- walk finds the part that is looked for
-pub record Walking (r : Edges) (n : ℕ) (path : List ℕ) (step : ℕ) : Type 0 where
+-- where the walk back stands when its newest node lies at the place head: the path from there on is its trail, and the rest
+-- of the walk finds the part that is looked for
+pub record Walking (r : Edges) (n : ℕ) (path : List ℕ) (head : ℕ) : Type 0 where
   pub long : length path ≡ 65
+  pub low : head ≤ 64
   pub stuck : length (order r n) < n
-  pub trail : Trail n r (left n r) (drop (64 - step) path)
-  pub rest : walk_back r n (left n r) (n - step) (drop (64 - step) path) ≡ way_back r n
+  pub trail : Trail n r (left n r) (drop head path)
+  pub rest : walk_back r n (left n r) (n - (64 - head)) (drop head path) ≡ way_back r n
 
 module _ (r : Edges) (n : ℕ) (marks : List ℕ) (same : Marked r n marks) where
   -- every node has a mark: all are placed
@@ -51,18 +52,19 @@ module _ (r : Edges) (n : ℕ) (marks : List ℕ) (same : Marked r n marks) wher
       ] in le-ltb _ _ g
 
   pub walking_none
-      : (path : List ℕ) (u : ℕ) → length path ≡ 65 → Some u ≡ first_below n (unmarked marks) → Walking r n (set path 64 u) 0
+      : (path : List ℕ) (u : ℕ) → length path ≡ 65 → Some u ≡ first_below n (unmarked marks) → Walking r n (set path 64 u) 64
   walking_none path u l e =
       let f = some_found n _ u e in
       let is : u ≡ least n (left n r) = f.1 ∙ least_same n _ _ same in
       let d : drop 64 (set path 64 u) ≡ u ∷ [] =
       drop-set path 64 u (omega arith) ∙ ap (λ t. u ∷ t) (drop_all 65 path (omega arith)) in
-      let k : n - 0 ≡ n = omega arith in
+      let k : n - (64 - 64) ≡ n = omega arith in
       let t : left n r u ≡ true = ap (left n r) is ∙ least_passes n (left n r) (omega (arith, is, f.0)) in
       let c = order_count n r in
       let z = count_none n (left n r) in
       record {
         long = length-set path 64 u ∙ l;
+        low = omega arith;
         stuck = elim (cases_lt (length (order r n)) n) [
           | inl l ↦ l
           | inr g ↦ absurd (omega (arith, z (omega arith), is, f.0))
@@ -71,40 +73,40 @@ module _ (r : Edges) (n : ℕ) (marks : List ℕ) (same : Marked r n marks) wher
         rest = rw (k, d, is) refl;
       }
 
-  module _ (path : List ℕ) (step : ℕ) (s : Walking r n path step) where
+  module _ (path : List ℕ) (head : ℕ) (s : Walking r n path head) where
     -- the trail, and its newest node
     abbrev trail : List ℕ
-    trail = drop (64 - step) path
+    trail = drop head path
 
-    newest : get_or path (64 - step) 0 ≡ get_or trail 0 0
-    newest = sym (get_or-drop (64 - step) path 0 0 ∙ ap (λ i. get_or path i 0) (omega arith))
+    newest : get_or path head 0 ≡ get_or trail 0 0
+    newest = sym (get_or-drop head path 0 0 ∙ ap (λ i. get_or path i 0) (omega arith))
 
-    trail_length : step < 65 → length trail ≡ step + 1
-    trail_length l = let d = length-drop (64 - step) path in omega (arith, d, s.long)
+    trail_length : length trail ≡ 65 - head
+    trail_length = let d = length-drop head path in omega (arith, d, s.long)
 
-    source_same : least n (λ u. unmarked marks u && r u (get_or path (64 - step) 0)) ≡ source r n (left n r) (get_or trail 0 0)
+    source_same : least n (λ u. unmarked marks u && r u (get_or path head 0)) ≡ source r n (left n r) (get_or trail 0 0)
     source_same =
-        least_same n _ _ (λ u h. ap (λ b. b && r u (get_or path (64 - step) 0)) (same u h)) ∙ ap (source r n (left n r)) newest
+        least_same n _ _ (λ u h. ap (λ b. b && r u (get_or path head 0)) (same u h)) ∙ ap (source r n (left n r)) newest
 
     -- the newest node has a source
-    pub some_source : None ≡ first_below n (λ u. unmarked marks u && r u (get_or path (64 - step) 0)) → ⊥
+    pub some_source : None ≡ first_below n (λ u. unmarked marks u && r u (get_or path head 0)) → ⊥
     some_source e =
         let m = none_found n _ e in
         let b = source_below n r (left n r) (order_none_next n r s.stuck) _ (s.trail.below 0 s.trail.some) s.trail.newest_unplaced in
         omega (arith, m, b, source_same)
 
     -- as many steps as there are nodes suffice
-    pub walk_ends : n ≤ step → step < 65 → ⊥
-    walk_ends h l =
-        let c = distinct_count n trail s.trail.below s.trail.distinct in omega (arith, c, trail_length l)
+    pub walk_ends : n ≤ 64 - head → ⊥
+    walk_ends h =
+        let c = distinct_count n trail s.trail.below s.trail.distinct in omega (arith, c, h, s.low, trail_length)
 
-    module _ (l : step < n) (low : n ≤ 64) (u : ℕ)
-        (from : Some u ≡ first_below n (λ u. unmarked marks u && r u (get_or path (64 - step) 0))) where
+    module _ (l : 64 - head < n) (few : n ≤ 64) (u : ℕ)
+        (from : Some u ≡ first_below n (λ u. unmarked marks u && r u (get_or path head 0))) where
       is_source : u ≡ source r n (left n r) (get_or trail 0 0)
       is_source = (some_found n _ u from).1 ∙ source_same
 
-      one_less : n - step ≡ suc (n - (step + 1))
-      one_less = omega arith
+      one_less : n - (64 - head) ≡ suc (n - (64 - (head - 1)))
+      one_less = omega (arith, s.low, l, few)
 
       pub walk_found
           : (at : ℕ) → Some at ≡ first_below (length trail) (λ k. eqb (get_or trail k 0) u)
@@ -112,25 +114,24 @@ module _ (r : Edges) (n : ℕ) (marks : List ℕ) (same : Marked r n marks) wher
       walk_found at e =
           let f = some_found (length trail) _ at e in (
             lt-ltb _ _ s.stuck,
-            sym (back_found r n (left n r) (n - (step + 1)) trail u is_source at f.1 f.0)
+            sym (back_found r n (left n r) (n - (64 - (head - 1))) trail u is_source at f.1 f.0)
                 ∙ ap (λ k. walk_back r n (left n r) k trail) (sym one_less) ∙ s.rest,
           )
 
       pub walking_more
           : None ≡ first_below (length trail) (λ k. eqb (get_or trail k 0) u)
-          → Walking r n (set path (64 - step - 1) u) (step + 1)
+          → Walking r n (set path (head - 1) u) (head - 1)
       walking_more e =
           let m = none_found (length trail) _ e in
-          let i : 64 - (step + 1) ≡ 64 - step - 1 = omega arith in
-          let f : 64 - step - 1 + 1 ≡ 64 - step = omega arith in
-          let d : drop (64 - (step + 1)) (set path (64 - step - 1) u) ≡ u ∷ trail =
-          ap (λ i. drop i (set path (64 - step - 1) u)) i ∙ drop-set path (64 - step - 1) u (omega (arith, s.long))
-          ∙ ap (λ i. u ∷ drop i path) f in
+          let f : head - 1 + 1 ≡ head = omega (arith, s.low, l, few) in
+          let d : drop (head - 1) (set path (head - 1) u) ≡ u ∷ trail =
+          drop-set path (head - 1) u (omega (arith, s.long, s.low)) ∙ ap (λ i. u ∷ drop i path) f in
           record {
-            long = length-set path (64 - step - 1) u ∙ s.long;
+            long = length-set path (head - 1) u ∙ s.long;
+            low = omega (arith, s.low);
             stuck = s.stuck;
             trail = rw (d, is_source)
                 (longer_trail n r (left n r) (order_none_next n r s.stuck) trail s.trail (has_absent trail _ (rw is_source at m)));
-            rest = rw d (sym (back_more r n (left n r) (n - (step + 1)) trail u is_source m)
+            rest = rw d (sym (back_more r n (left n r) (n - (64 - (head - 1))) trail u is_source m)
                 ∙ ap (λ k. walk_back r n (left n r) k trail) (sym one_less) ∙ s.rest);
           }

@@ -1,10 +1,12 @@
-// The caller's mark bytes, which say what has been placed. However a verdict ends, the marks of its
-// nodes are zero after it, since the guard that holds them clears them when it is dropped.
+// The caller's mark bytes, which say what has been placed. However a verdict ends that looks at the
+// nodes, their marks are zero after it, since the guard that holds them clears them when it is
+// dropped. A refusal for too few values or places looks at no node, and leaves the marks.
 ghost use Rattle.std.specs.Prelude.{◌≡◌, length, replicate};
 ghost use Rattle.judge.specs.Marks.{unmarked};
 
 // Mark bytes that are lent: all are zero once the guard is gone. (Placing and walking take the bytes
-// and not the guard, whose loan each of their contracts would have to keep by name.)
+// and not the guard, whose loan each of their contracts would have to keep by name. Nor is there a
+// struct of the graph and the bytes: it can't share the bytes while placing writes them.)
 pub(crate) struct Marks<'a> {
     pub(crate) bytes: &'a mut [u8],
 }

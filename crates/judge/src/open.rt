@@ -47,7 +47,9 @@ impl OpenPipes<'_, '_> {
             .filter(|valve| value_of(self.values, *valve) == Value::Unknown)
     }
 
-    // The first drawn valve, by ascending pairs of nodes, whose byte tells no position.
+    // The first drawn valve, by ascending pairs of nodes, whose byte tells no position. (One search
+    // over the places of the pairs, as its definition counts them: a search within a search would
+    // need a further function with a contract, and a proof that both count alike.)
     pub(crate) fn first_unknown(&self) -> Option<u32>
         ensures { result ≡ first_unknown (view self.now.sheet.now).nodes (view self.now.sheet.now).pipe self.now.values.now }
     {

@@ -18,7 +18,9 @@ fn in_degree<G: Digraph>(g: &G, w: u32) -> usize
 }
 
 // The in-degrees of the nodes, before any is placed. (Not by `array::from_fn`: it would count at all
-// 64 places, so that the work would no longer grow with the square of the nodes.)
+// 64 places, so that the work would no longer grow with the square of the nodes. Nor by a `zip` with
+// the nodes: after it a proof knows nothing of what the loop wrote through `iter_mut`, and after an
+// `enumerate` it does.)
 fn in_degrees<G: Digraph>(g: &G) -> [usize; 64]
     ensures { (w : ℕ) → w < G.Digraph.size g.now → slice_index result w ≡ count (G.Digraph.size g.now) (λ u. G.Digraph.edges g.now u w) }
 {
@@ -36,7 +38,7 @@ fn next_node<G: Digraph>(g: &G, degrees: &[usize; 64], marks: &[u8]) -> Option<u
     (0..g.nodes()).find(|w| is_unmarked(marks, *w) && degrees[*w as usize] == 0)
 }
 
-// Takes the edges from v off the in-degrees.
+// Takes the edges from v off the in-degrees. (By `enumerate`, for the reason told at `in_degrees`.)
 fn release<G: Digraph>(g: &G, v: u32, degrees: &mut [usize; 64])
     ensures { (w : ℕ) → w < G.Digraph.size g.now → slice_index degrees.new w ≡ slice_index degrees.old w - (if G.Digraph.edges g.now v w then 1 else 0) }
 {

@@ -33,8 +33,7 @@ fn list_pipes(sheet: &Sheet, ring: &[u32], pipes: &mut Bounded<'_, Pipe>)
     ensures { Replaced (ring_pipes (view sheet.now).pipe ring.now) pipes.old pipes.new }
 {
     pipes.clear();
-    for (k, &from) in ring.iter().enumerate() {
-        let to = ring.get(k + 1).copied().unwrap_or(ring[0]);
+    for (&from, &to) in ring.iter().zip(ring.iter().skip(1).chain(ring)) {
         let valve = sheet.valve(from, to).unwrap();
         pipes.push(Pipe { from, to, valve }).unwrap();
     }

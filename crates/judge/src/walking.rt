@@ -1,6 +1,7 @@
 // Finding a ring among the nodes that cannot be placed: every one of them has an edge from another,
 // so a walk back along such edges comes to a node twice. The walk is written from the end of `path`
-// to its front, so that it lies in the direction of the edges, and no iterator runs along it.
+// to its front, so that it lies in the direction of the edges; it goes by index, since each turn
+// reads all that is written and then writes before it.
 ghost use Rattle.std.specs.Prelude.{◌≡◌, ℕ, ◌<◌, ◌≤◌, ◌&&◌, true, false, length, MatchOption, ◌==◌, slice_index};
 ghost use Rattle.judge.specs.First.{first_below};
 ghost use Rattle.judge.specs.Marks.{unmarked};
@@ -36,7 +37,7 @@ fn place_of(nodes: &[u32], u: u32) -> Option<usize>
 fn lowest_place(nodes: &[u32]) -> Option<usize>
     ensures { MatchOption result (length nodes.now ≡ 0) (λ low. (low < length nodes.now) × ((k : ℕ) → k < length nodes.now → slice_index nodes.now low ≤ slice_index nodes.now k)) }
 {
-    (0..nodes.len()).min_by_key(|k| nodes[*k])
+    place_of(nodes, *nodes.iter().min()?)
 }
 
 // Walks back from the smallest node without a mark until a node repeats: the part of the path that
@@ -46,8 +47,8 @@ fn walk<'p, G: Digraph>(g: &G, marks: &[u8], path: &'p mut [u32; 65]) -> Option<
     ensures { MatchOption result (is_stuck (G.Digraph.edges g.now) (G.Digraph.size g.now) ≡ false) (λ part. (is_stuck (G.Digraph.edges g.now) (G.Digraph.size g.now) ≡ true) × (part.now ≡ way_back (G.Digraph.edges g.now) (G.Digraph.size g.now))) }
 {
     path[64] = first_unmarked(g, marks)?;
-    for step in 0..g.nodes() as usize {
-        let head = 64 - step;
+    let n = g.nodes() as usize;
+    for head in (65 - n..=64).rev() {
         let u = source_of(g, marks, path[head])?;
         if let Some(at) = place_of(&path[head..], u) {
             return Some(&mut path[head..=head + at]);

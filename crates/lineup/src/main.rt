@@ -19,18 +19,62 @@ use sinks::table::TableSink;
 use std::io;
 
 // The pipes to draw, each from a node to a node on a valve, with the slips of the pencil among them.
-const PIPES: [(u32, u32, u32); 11] = [
-    (1, 0, 1),
-    (2, 0, 2),
-    (3, 0, 3),
-    (4, 0, 4),
-    (0, 0, 4),
-    (5, 1, 5),
-    (5, 2, 6),
-    (5, 6, 6),
-    (0, 4, 8),
-    (0, 4, 7),
-    (4, 0, 7),
+const PIPES: [Pipe; 11] = [
+    Pipe {
+        from: 1,
+        to: 0,
+        valve: 1,
+    },
+    Pipe {
+        from: 2,
+        to: 0,
+        valve: 2,
+    },
+    Pipe {
+        from: 3,
+        to: 0,
+        valve: 3,
+    },
+    Pipe {
+        from: 4,
+        to: 0,
+        valve: 4,
+    },
+    Pipe {
+        from: 0,
+        to: 0,
+        valve: 4,
+    },
+    Pipe {
+        from: 5,
+        to: 1,
+        valve: 5,
+    },
+    Pipe {
+        from: 5,
+        to: 2,
+        valve: 6,
+    },
+    Pipe {
+        from: 5,
+        to: 6,
+        valve: 6,
+    },
+    Pipe {
+        from: 0,
+        to: 4,
+        valve: 8,
+    },
+    Pipe {
+        from: 0,
+        to: 4,
+        valve: 7,
+    },
+    Pipe {
+        from: 4,
+        to: 0,
+        valve: 7,
+    },
 ];
 
 // Draws a pipe, and prints it as the sheet has it then, or why it was refused.
@@ -55,7 +99,9 @@ fn draw(
     }
 }
 
-// Judges one reading of the valves, and prints it with the verdict.
+// Judges one reading of the valves, and prints it with the verdict. (Verdicts has a like function,
+// for another size and another line: what is alike is the call, and one for both could promise
+// nothing but to print.)
 fn judge(rt: &HostRuntime, sheet: &Sheet, values: &[u8]) -> io::Result<()> {
     let mut node_places = [0; 6];
     let mut pipe_places = [Pipe::default(); 6];
@@ -78,7 +124,8 @@ fn add<S: Sink>(rt: &HostRuntime, sink: &mut S, clause: &[i32]) -> io::Result<()
     }
 }
 
-// Prints clause k as a formula reads it.
+// Prints clause k as a formula reads it. (Encodings has a like function, for shorter clauses and
+// another line: what is alike is the call, and one for both could promise nothing but to print.)
 fn tell_clause<F: Formula>(
     rt: &HostRuntime,
     name: &str,
@@ -137,8 +184,8 @@ fn main(rt: HostRuntime) -> io::Result<()> {
     let nodes = sheet.nodes();
     let valves = sheet.valves();
     println!(rt; "sheet {number} made: {nodes} nodes, {valves} valves")?;
-    for (from, to, valve) in PIPES {
-        token = draw(&rt, &mut sheet, token, Pipe { from, to, valve })?;
+    for pipe in PIPES {
+        token = draw(&rt, &mut sheet, token, pipe)?;
     }
     judge(&rt, &sheet, &[1, 1, 1, 2, 1, 1, 1])?;
     judge(&rt, &sheet, &[1, 1, 1, 1, 1, 1, 1])?;

@@ -7,23 +7,20 @@ use judge::report::Report;
 use judge::verdict::judge_valves;
 use sheet::pipe::Pipe;
 use sheet::place::Sheet;
-use std::io;
+use std::{array, io};
 use trials::{Sequence, draw_some};
 
 // Values of ten valves: mostly open, some shut, a few unknown.
 fn read_valves(numbers: &mut Sequence) -> [u8; 10] {
-    let mut values = [1; 10];
-    for value in values.iter_mut() {
-        *value = match numbers.below(24) {
-            0 => 0,
-            1..=5 => 2,
-            _ => 1,
-        };
-    }
-    values
+    array::from_fn(|_| match numbers.below(24) {
+        0 => 0,
+        1..=5 => 2,
+        _ => 1,
+    })
 }
 
-// Prints the verdict on a sheet and some values.
+// Prints the verdict on a sheet and some values. (The line-up has a like function, for another size
+// and another line: what is alike is the call, and one for both could promise nothing but to print.)
 fn print_verdict(rt: &HostRuntime, sheet: &Sheet, values: &[u8]) -> io::Result<()> {
     let mut node_places = [0; 8];
     let mut pipe_places = [Pipe::default(); 8];
