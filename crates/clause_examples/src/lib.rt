@@ -149,7 +149,8 @@ mod tests {
         write_all(&mut source, &mut sink)
     }
 
-    // Writes the clause 2, and an empty one behind it where asked.
+    // Writes the clause 2, and an empty one behind it where asked. (By a flag: for one clause more a slice
+    // of slices would be no plainer.)
     fn write_bad<S: Sink>(sink: &mut S, with_empty: bool) -> Result<(), SinkRefusal> {
         let mut literals = [0; 3];
         let mut pairs = [(0, 0); 2];
