@@ -47,7 +47,7 @@ fn number<I: Iterator<Item = u32> + Drop>(
         .collect(alloc)
 }
 
-// Prints clause k of a closing.
+// Prints clause k of a closing. (Other programs print a formula's: a closing is asked with its graph.)
 fn print_clause<C: Closing>(
     rt: &HostRuntime,
     closing: &C,

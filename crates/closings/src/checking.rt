@@ -60,7 +60,8 @@ fn variables_differ(arcs: &[Arc]) -> bool
         .all(|(a, arc)| is_new(&arcs[..a], arc.variable))
 }
 
-// Whether a closing may rely on the arcs.
+// Whether a closing may rely on the arcs. (Nodes, arcs and variable are one by one until they are
+// checked; then they are a `Remaining`.)
 fn ready(nodes: u32, arcs: &[Arc], first: u32) -> bool
     ensures { Decides result (Ready (record { nodes = nodes; arcs = arcs.now; first = first })) }
 {

@@ -43,7 +43,8 @@ impl<'x> Grid<'x> {
         }
     }
 
-    // The variable of arc a and k.
+    // The variable of arc a and k. (No plainer as one with the above by rows: every call for an arc would
+    // name row `nodes + a`.)
     pub(crate) fn arc_variable(self, a: u32, k: u32) -> Variable
         requires row { a < arc_count (input self.x.now) }
         requires first { 1 ≤ k }

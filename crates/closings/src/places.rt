@@ -33,7 +33,8 @@ pub(crate) trait ClausePlace: Copy {
         ensures { result ≡ slice_get (clause_at (input x.now) self) j };
 }
 
-// The length of clause k, or none past the last.
+// The length of clause k, or none past the last. (Each closing hands its two questions on by a line: one
+// implementation for all with places would meet that of the named closing.)
 pub(crate) fn length_of<P: ClausePlace>(x: &Remaining, k: u32) -> Option<u32>
     ensures { result ≡ option_map length (slice_get (P.clauses (input x.now)) k) }
 {

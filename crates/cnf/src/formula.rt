@@ -24,7 +24,8 @@ pub trait Formula {
         ensures same { self.new ≡ self.old };
 
     // Copies the literals of clause k from place `from` on to the front of `out`, as many as there
-    // are and as fit: how many. The places of `out` past them stay.
+    // are and as fit: how many. The places of `out` past them stay. (A number and no slice, so that the
+    // buffer is its caller's again at once.)
     fn copy_literals(&mut self, k: u32, from: u32, out: &mut [i32]) -> usize
         ensures value { result ≡ min (length (slice_index_or (clauses self.old) k []) - from) (length out.old) }
         ensures after { out.new ≡ take result (drop from (slice_index_or (clauses self.old) k [])) ++ drop result out.old }

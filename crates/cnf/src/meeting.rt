@@ -1,6 +1,8 @@
 // Whether value bytes meet the clauses of a formula: byte v − 1 belongs to variable v, 1 is true, 2 is
 // false, and any other value, or no byte, meets neither literal. The formula need not be a sink, so
-// a clause may be empty or of any length, and a literal may be any number.
+// a clause may be empty or of any length, and a literal may be any number. A formula is asked by number
+// and through `&mut`, so its clauses are gone over by loops: a closure in `any` or `find` would change
+// what it captures.
 ghost use Rattle.std.specs.Prelude.{◌≡◌, ℕ, ◌≤◌, [], slice_index_or};
 ghost use Rattle.cnf.specs.Meeting.{first_unmet, meets_byte, met, told, value_of};
 ghost use Rattle.cnf.specs.Satisfaction.{UnmetRight};
@@ -9,6 +11,7 @@ ghost use Rattle.std.specs.List.{list_any};
 use crate::formula::Formula;
 
 // What a value byte tells of its variable: 1 that it is true, 2 that it is false, any other nothing.
+// (No `Option<bool>`: its cases would not bear these names.)
 #[derive(Clone, Copy, PartialEq, Eq, Debug)]
 pub enum Value {
     True,
@@ -42,14 +45,15 @@ impl Value {
 }
 
 // Whether a literal is met by the value byte of its variable: a positive one by 1, a negative one
-// by 2.
+// by 2. (A byte, since the caller's buffer holds bytes, and the question is for every byte.)
 pub fn meets(literal: i32, value: u8) -> bool
     ensures { result ≡ meets_byte literal value }
 {
     Value::from(value).meets(literal)
 }
 
-// What the byte of a variable tells: nothing where there is no byte.
+// What the byte of a variable tells: nothing where there is no byte. (A `match` and no `map_or`, after
+// which the proof was not told what the conversion gave.)
 pub fn value_of(values: &[u8], variable: u32) -> Value
     ensures { result ≡ told (value_of values.now variable) }
 {

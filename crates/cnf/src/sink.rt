@@ -14,8 +14,8 @@ pub trait Sink: Formula {
     // the loans that it holds, which no call changes
     ghost names: { Self → List ℕ };
 
-    // The largest variable and the most literals that it takes. Its clauses are those at the bottom,
-    // read through its layers.
+    // The largest variable and the most literals that it takes, as a pair, which the product asks for.
+    // Its clauses are those at the bottom, read through its layers.
     fn limits(&mut self) -> (u32, u32)
         ensures top { result.0 ≡ (state self.old).top }
         ensures longest { result.1 ≡ (state self.old).longest }

@@ -1,7 +1,8 @@
 // Writing all clauses of a formula to a sink, or none. The length of every clause is tried first,
 // then every literal, then the room against their number and what they cost together. A clause that
 // passes has at most 256 literals, so one buffer serves them all. A formula is asked by number and
-// lends no slice, so its clauses are gone over by their numbers.
+// lends no slice, so its clauses are gone over by their numbers, and by loops: it is asked through
+// `&mut`, and a closure in `any` would change what it captures.
 ghost use Rattle.std.specs.Prelude.{◌≡◌, ◌≤◌, false, [], ◌∷◌, ◌++◌, length, take, is_ok, if◌then◌else◌, None, OnErr, slice_index_or, sum_by};
 ghost use Rattle.cnf.specs.Clauses.{bad_length, has_bad_literal};
 ghost use Rattle.cnf.specs.Writing.{write_refusal, written};
@@ -19,6 +20,7 @@ fn any_bad_length<F: Formula>(source: &mut F, longest: u32) -> bool
     ensures same { source.new ≡ source.old }
 {
     for k in 0..source.count() {
+        // every clause has a length here; where there were none, 0 would be as bad
         let m = source.length(k).unwrap_or(0);
         if m == 0 || m > longest {
             return true;

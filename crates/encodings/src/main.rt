@@ -54,8 +54,8 @@ fn eliminate_some<S: Sink>(
     Ok(())
 }
 
-// Prints clause k. (The line-up has a like function, for longer clauses and another line: what is
-// alike is the call, and one for both could promise nothing but to print.)
+// Prints clause k. (No plainer as one with that of the line-up, which names the formula: the line to
+// print would be a closure, and longer than this.)
 fn print_clause<F: Formula>(rt: &HostRuntime, formula: &mut F, k: u32) -> io::Result<()> {
     let mut buffer = [0; 4];
     let n = formula.copy_literals(k, 0, &mut buffer);

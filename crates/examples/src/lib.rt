@@ -28,7 +28,8 @@ mod tests {
     use sheet::token::DrawingToken;
     use std::test::Fail;
 
-    // Draws a pipe; a refusal loses the token.
+    // Draws a pipe; a refusal loses the token. (The examples of encodings draw in a like way: a common
+    // function would be public in a crate of its own, with a contract and an edit, for these few lines.)
     fn draw(
         sheet: &mut Sheet,
         token: DrawingToken,
@@ -111,10 +112,7 @@ mod tests {
         let judged = judge(&[2, 1, 1])?;
         assert_eq!(rt; judged.answer, Ok(Verdict::Order));
         assert_eq!(rt; judged.nodes, [1, 2, 0, 9]);
-        assert_eq!(rt;
-            judged.pipes[0],
-            NINES
-        );
+        assert_eq!(rt; judged.pipes[0], NINES);
         Ok(())
     }
 

@@ -7,7 +7,8 @@ use crate::digraph::Digraph;
 use cnf::meeting::{Value, value_of};
 use sheet::place::Sheet;
 
-// Whether a pipe is open at the value byte of its valve: 1 is open.
+// Whether a pipe is open at the value byte of its valve: 1 is open. (A byte, since the caller's buffer
+// holds bytes, and the question is for every byte; what is asked below is known as a value already.)
 pub fn is_open(value: u8) -> bool
     ensures { result ≡ is_open value }
 {

@@ -10,7 +10,8 @@ ghost use Rattle.judge.specs.Placed.{Placed};
 use crate::digraph::Digraph;
 use crate::marks::is_unmarked;
 
-// How many nodes have an edge to w.
+// How many nodes have an edge to w. (A sheet counts its arcs by a line of its own: they are no digraph
+// here, which is a trait of this crate.)
 fn in_degree<G: Digraph>(g: &G, w: u32) -> usize
     ensures { result ≡ count (G.Digraph.size g.now) (λ u. G.Digraph.edges g.now u w) }
 {
@@ -31,7 +32,8 @@ fn in_degrees<G: Digraph>(g: &G) -> [usize; 64]
     degrees
 }
 
-// The smallest node without a mark and with in-degree 0.
+// The smallest node without a mark and with in-degree 0. (Two lists by node, since the marks are the
+// caller's bytes.)
 fn next_node<G: Digraph>(g: &G, degrees: &[usize; 64], marks: &[u8]) -> Option<u32>
     ensures { result ≡ first_below (G.Digraph.size g.now) (λ w. unmarked marks.now w && slice_index degrees.now w == 0) }
 {
@@ -50,7 +52,8 @@ fn release<G: Digraph>(g: &G, v: u32, degrees: &mut [usize; 64])
 }
 
 // Places every node that can be placed, and marks it: the nodes in their order, which lie in the
-// first places of `order`. (The count is more than an index: it says how many are handed out.)
+// first places of `order`. (The count is more than an index: it says how many are handed out. No
+// bounded list here: the slice that is handed out outlives it.)
 pub(crate) fn place_nodes<'o, G: Digraph>(
     g: &G,
     marks: &mut [u8],

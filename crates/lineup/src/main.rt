@@ -99,9 +99,8 @@ fn draw(
     }
 }
 
-// Judges one reading of the valves, and prints it with the verdict. (Verdicts has a like function,
-// for another size and another line: what is alike is the call, and one for both could promise
-// nothing but to print.)
+// Judges one reading of the valves, and prints it with the verdict. (No plainer as one with that of
+// the verdicts, which prints no values: they would be handed over as a text to be made first.)
 fn judge(rt: &HostRuntime, sheet: &Sheet, values: &[u8]) -> io::Result<()> {
     let mut node_places = [0; 6];
     let mut pipe_places = [Pipe::default(); 6];
@@ -124,8 +123,8 @@ fn add<S: Sink>(rt: &HostRuntime, sink: &mut S, clause: &[i32]) -> io::Result<()
     }
 }
 
-// Prints clause k as a formula reads it. (Encodings has a like function, for shorter clauses and
-// another line: what is alike is the call, and one for both could promise nothing but to print.)
+// Prints clause k as a formula reads it. (No plainer as one with that of the encodings,
+// which names no formula: the line to print would be a closure, and longer than this.)
 fn tell_clause<F: Formula>(
     rt: &HostRuntime,
     name: &str,

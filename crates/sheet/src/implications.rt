@@ -114,8 +114,8 @@ impl<'p, R: Rule> Formula for Planned<'p, R> {
         }
     }
 
-    // (A cast for each of two signs: a variable with methods for them, as the closings have, would be
-    // one more type for a crate below both.)
+    // (A cast for each of two signs: a closing's variable bears its bound from its grid, and here the
+    // bounds come from the premises and the table, so that each would be made and used in one line.)
     fn literal(&mut self, k: u32, j: u32) -> Option<i32> {
         let (u, w) = *self.pairs.get(k as usize)?;
         let body = self.rule.body(u, w)?;

@@ -29,7 +29,8 @@ fn raise(literal: i32, shift: u32) -> i32
     }
 }
 
-// A literal as it is read from below.
+// A literal as it is read from below. (No twin of `raise`, though it moves the other way: it leaves the
+// variables up to the shift alone, which `raise` never makes.)
 fn lower(literal: i32, shift: u32) -> i32
     ensures { result ≡ lowered shift literal }
 {

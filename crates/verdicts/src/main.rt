@@ -19,8 +19,8 @@ fn read_valves(numbers: &mut Sequence) -> [u8; 10] {
     })
 }
 
-// Prints the verdict on a sheet and some values. (The line-up has a like function, for another size
-// and another line: what is alike is the call, and one for both could promise nothing but to print.)
+// Prints the verdict on a sheet and some values. (No plainer as one with that of the
+// line-up, which prints the values before it: they would be handed over as a text to be made first.)
 fn print_verdict(rt: &HostRuntime, sheet: &Sheet, values: &[u8]) -> io::Result<()> {
     let mut node_places = [0; 8];
     let mut pipe_places = [Pipe::default(); 8];
