@@ -1,9 +1,9 @@
 -- A list after `push` and after `replace`, where the places suffice.
-use Rattle.std.proofs.Common.{◌≡◌, ◌+◌, ◌<◌, ◌≤◌, Bool, true, cond, leb, ltb, List, [], ◌∷◌, ◌++◌, length, get_or, drop, set, sym, refl, ap, ◌∙◌, arith}
+use Rattle.std.proofs.Common.{◌≡◌, ◌+◌, ◌<◌, Bool, true, cond, ltb, List, [], ◌∷◌, ◌++◌, length, get_or, drop, set, sym, refl, ap, ◌∙◌, arith}
 use Rattle.bounded.specs.Lists.{Replaced, entries, room}
 use Rattle.bounded.specs.declared.Bounded.{Bounded}
 use Rattle.std.proofs.lemmas.List.{append_assoc, drop_more, length-append, length-drop, length_push, set_at}
-use Rattle.std.proofs.lemmas.Bool.{le-leb, lt-ltb}
+use Rattle.std.proofs.lemmas.Bool.{lt-ltb}
 
 -- one entry more, in place of the old ones
 push_room
@@ -34,11 +34,3 @@ module _ {T : Type 0} (new : List T) (b c : Bounded T) (r : Replaced new b c) (l
         room_is = rw t at m ∙ (λ i. set (r.room_is i) (length (r.entries_are i)) x) ∙ push_room new x (room b) l;
         lent = g ∙ r.lent;
       }
-
-pub replace_replaced
-    : {T : Type 0} (new : List T) (ok : Bool) (b c : Bounded T) → length new ≤ length (room b)
-    → ok ≡ leb (length new) (length (room b)) → entries c ≡ cond ok new (entries b)
-    → room c ≡ cond ok (new ++ drop (length new) (room b)) (room b) → c.places.ghost_name ≡ b.places.ghost_name
-    → Replaced new b c
-replace_replaced new ok b c l test e m g =
-    let t : ok ≡ true = test ∙ le-leb _ _ l in record { entries_are = rw t at e; room_is = rw t at m; lent = g }

@@ -4,7 +4,7 @@ use Rattle.std.proofs.iter.Yields.{fronts}
 use Rattle.std.proofs.lemmas.Bool.{cases_lt, le-ltb, lt-ltb}
 use Rattle.std.proofs.lemmas.Iterator.{YieldsList, YieldsList-from_slice, YieldsList-from_zip, zips}
 use Rattle.std.proofs.lemmas.Iterator.Adapters.{YieldsList-from_skip}
-use Rattle.std.proofs.lemmas.Iterator.Consumers.{YieldsList-end, YieldsList-from_chain, YieldsList-turn}
+use Rattle.std.proofs.lemmas.Iterator.Consumers.{YieldsList-from_chain, YieldsList-turn}
 use Rattle.std.proofs.lemmas.List.{get_or_default, get_or-drop, length-append, length-drop}
 use Rattle.std.proofs.lemmas.Slice.Zip.{get_or-zip, length-zip}
 use Rattle.std.proofs.Math.ListN.{get_or-append}
@@ -91,6 +91,3 @@ module _ (ns : List ℕ) (s : Zip (Iter ℕ) (Chain (Skip (Iter ℕ)) (Iter ℕ)
           ap (λ p. p.0) at ∙ get_or_default ns (length xs) _ 0 l,
           ap (λ p. p.1) at ∙ get_or_default nexts (length xs) _ 0 m ∙ next_is (length xs) l,
         )
-
-    pub pair_end : r ≡ None → length xs ≡ length ns
-    pair_end e = (YieldsList-end pairs xs t y r u e h).1 ∙ pairs_length

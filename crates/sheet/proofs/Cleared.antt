@@ -11,12 +11,6 @@ is_cleared v k a b = (eqb a v && ltb b k) || (eqb b v && ltb a k)
 abbrev pub cleared : ℕ → ℕ → Table → Table
 cleared v k t a b = cond (is_cleared v k a b) 0 (t a b)
 
-pub cleared_none : (v : ℕ) (t : Table) → t ≡ cleared v 0 t
-cleared_none v t = fun_ext (λ a. fun_ext (λ b. go a b (t a b)))
-  where
-    go : (a b x : ℕ) → x ≡ cond (is_cleared v 0 a b) 0 x
-    go a b x = grind (arith, nat_tests)
-
 pub cleared_more : (v k : ℕ) (t : Table) → put (put (cleared v k t) v k 0) k v 0 ≡ cleared v (k + 1) t
 cleared_more v k t = fun_ext (λ i. fun_ext (λ j. go i j (t i j)))
   where

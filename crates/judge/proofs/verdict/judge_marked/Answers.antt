@@ -1,8 +1,7 @@
 use Rattle.std.proofs.Common.{◌∙◌, arith}
 use Rattle.sheet.specs.View.{view}
 use Rattle.std.proofs.lemmas.Bool.{le-leb}
-use Rattle.judge.proofs.Found.{few_in_order, few_in_ring, lists_order, lists_ring, ring_drawn}
-use Rattle.judge.proofs.Replaced.{replace_replaced}
+use Rattle.judge.proofs.Found.{few_in_order, few_in_ring, ring_drawn}
 use Rattle.judge.proofs.verdict.judge_marked.Goals as goal
 
 pub unwrap-requires : goal.unwrap-requires
@@ -22,21 +21,3 @@ list_pipes-requires c =
       few = omega (arith, c.requires.enough.pipes, few_in_ring (view c.args.sheet.now) c.args.values.now _ ring.1);
       drawn = ring_drawn (view c.args.sheet.now) c.args.values.now _ c.args.sheet.now.pipes_join ring.0 ring.1;
     }
-
-pub returns-in-Some-find_ring-clause-lists : goal.returns-in-Some-find_ring-clause-lists
-returns-in-Some-find_ring-clause-lists c =
-    let ring = c.in-Some-find_ring.ensures in
-    let few = few_in_ring (view c.args.sheet.now) c.args.values.now _ ring.1 in
-    lists_ring (view c.args.sheet.now) c.args.values.now _ _ _ _ _ ring.0 ring.1
-    (replace_replaced _ _ _ _ (omega (arith, few, c.requires.enough.nodes)) c.replace.ensures.test c.replace.ensures.entries
-    c.replace.ensures.room c.replace.ensures.lent)
-    c.list_pipes.ensures
-
-pub returns-clause-lists : goal.returns-clause-lists
-returns-clause-lists c =
-    let order = c.place_nodes-order.ensures.listed in
-    let few = few_in_order (view c.args.sheet.now) c.args.values.now _ order in
-    lists_order (view c.args.sheet.now) c.args.values.now _ _ _ _ _ c.in-None.ensures order
-    (replace_replaced _ _ _ _ (omega (arith, few, c.requires.enough.nodes)) c.replace-in-None.ensures.test
-    c.replace-in-None.ensures.entries c.replace-in-None.ensures.room c.replace-in-None.ensures.lent)
-    c.clear.ensures.entries c.clear.ensures.lent

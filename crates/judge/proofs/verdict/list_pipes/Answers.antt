@@ -1,12 +1,10 @@
-use Rattle.std.proofs.Common.{length, sym, subst, ◌∙◌, rules, arith, map}
-use Rattle.bounded.specs.Lists.{Replaced}
+use Rattle.std.proofs.Common.{length, sym, ◌∙◌, rules, arith}
 use Rattle.sheet.specs.View.{view}
 use Rattle.std.proofs.lemmas.List.{length_push}
 use Rattle.std.proofs.lemmas.List.FromFn.{length-map-range_with_len}
-use Rattle.std.specs.List.{range_with_len}
 use Rattle.judge.specs.Verdict.{ring_pipe}
 use Rattle.judge.proofs.Replaced.{push_fits, push_replaced}
-use Rattle.judge.proofs.RingPipes.{drawn_entry, pair_end, pair_turn, pipes_more, ring_pipe_is}
+use Rattle.judge.proofs.RingPipes.{drawn_entry, pair_turn, pipes_more, ring_pipe_is}
 use Rattle.judge.proofs.verdict.list_pipes.Goals as goal
 
 pub unwrap-valve-requires : goal.unwrap-valve-requires
@@ -32,8 +30,3 @@ loop-from-preserved c =
     (ring_pipe_is pipe ns k _ _ _ turn.1 turn.2 (sym c.unwrap-valve.ensures ∙ c.valve.ensures))
     (push_replaced _ _ _ c.loop-from.invariant (omega (arith, size, c.requires.few, turn.0)) _ _ _
     c.push.ensures.test c.push.ensures.entries c.push.ensures.room c.push.ensures.lent))
-
-pub returns : goal.returns
-returns c =
-    let all = pair_end c.args.ring.now c.into_iter-from-iterator.result (search rules) (search rules) (search rules) (search rules) (search rules) (search rules) c.loop-from.yielded c.loop-from.from-iterator c.next.new.self _ c.loop-from.yielded_by c.next.ensures.steps c.in-None.is in
-    subst (λ n. Replaced (map (ring_pipe (view c.args.sheet.now).pipe c.args.ring.now) (range_with_len 0 n)) c.args.pipes.now c.loop-from.pipes) all c.loop-from.invariant

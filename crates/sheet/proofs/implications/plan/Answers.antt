@@ -1,4 +1,4 @@
-use Rattle.std.proofs.Common.{◌≡◌, ℕ, ◌+◌, ◌*◌, ◌<◌, [], ◌∷◌, ◌++◌, length, if◌then◌else◌, set, subst, sym, refl, ap, ◌∙◌, arith, length-append}
+use Rattle.std.proofs.Common.{◌≡◌, ℕ, ◌+◌, ◌*◌, ◌<◌, [], ◌∷◌, ◌++◌, length, if◌then◌else◌, set, sym, ap, ◌∙◌, arith, length-append}
 use Rattle.std.proofs.lemmas.List.{length-set}
 use Rattle.std.proofs.lemmas.Bool.{lt-ltb}
 use Rattle.std.proofs.lemmas.Nat.{mul-add-lt}
@@ -7,31 +7,9 @@ use Rattle.bounded.specs.declared.Bounded.{Bounded}
 use Rattle.sheet.specs.Implications.{with_arc, with_arcs}
 use Rattle.sheet.specs.Plans.{arcs_in}
 use Rattle.sheet.specs.declared.arcs.Arcs as memory
-use Rattle.sheet.proofs.Plans.{Looked, arcs_noted, done, done_all, done_noted, done_past, few_pairs, pair_there, planned_is}
+use Rattle.sheet.proofs.Plans.{arcs_noted, done, done_all, done_noted, done_past, few_pairs, pair_there, planned_is}
 use Rattle.sheet.proofs.implications.plan.Goals as goal
 use Rattle.sheet.proofs.implications.plan.Goals.{else-is_some, then-is_some}
-
-pub loop-u-init : goal.loop-u-init
-loop-u-init g c =
-    let z : 0 ≡ 0 * c.args.nodes = omega arith in
-    subst (λ i. Looked (g.R.Rule.premises c.args.rule.now) c.args.nodes c.args.arcs.now (length (room c.args.pairs.now)) i c.args.arcs.now c.args.pairs.now) z
-    (record {
-      listed = c.requires.places.0;
-      given = refl;
-      few = omega (arith, ap length c.requires.places.0);
-      next = omega arith;
-      room = refl;
-    })
-
-pub loop-w-init : goal.loop-w-init
-loop-w-init g c =
-    let z : c.loop-u.u * c.args.nodes ≡ c.loop-u.u * c.args.nodes + 0 = omega arith in
-    subst (λ i. Looked (g.R.Rule.premises c.args.rule.now) c.args.nodes c.args.arcs.now (length (room c.args.pairs.now)) i c.loop-u.arcs c.loop-u.pairs) z c.loop-u.invariant
-
-pub give-requires-clause-room : goal.give-requires-clause-room
-give-requires-clause-room g c =
-    let inside = mul-add-lt c.loop-u.u c.args.nodes c.loop-w.w c.args.nodes c.loop-u-test.true c.loop-w-test.true in
-    omega (arith, few_pairs c.args.nodes c.requires.nodes, c.loop-w.invariant.next, c.requires.variables, inside)
 
 pub loop-w-preserved : goal.loop-w-preserved
 loop-w-preserved g c =
@@ -71,13 +49,6 @@ loop-w-preserved g c =
           }
     ]
 
-pub loop-u-preserved : goal.loop-u-preserved
-loop-u-preserved g c =
-    let n = c.args.nodes in
-    let e : c.loop-w.w ≡ n = omega arith in
-    let z : c.loop-u.u * n + c.loop-w.w ≡ (c.loop-u.u + 1) * n = omega arith in
-    subst (λ i. Looked (g.R.Rule.premises c.args.rule.now) n c.args.arcs.now (length (room c.args.pairs.now)) i c.loop-w.arcs c.loop-w.pairs) z c.loop-w.invariant
-
 pub returns-clause-pairs : goal.returns-clause-pairs
 returns-clause-pairs g c =
     let e : c.loop-u.u ≡ c.args.nodes = omega arith in
@@ -88,13 +59,3 @@ returns-clause-arcs g c =
     let ps = g.R.Rule.premises c.args.rule.now in
     let e : c.loop-u.u ≡ c.args.nodes = omega arith in
     c.loop-u.invariant.given ∙ ap (with_arcs _) (done_all ps c.args.nodes (c.loop-u.u * c.args.nodes) (ap (λ u. u * c.args.nodes) e)) ∙ planned_is ps c.args.nodes _
-
-pub returns-clause-next : goal.returns-clause-next
-returns-clause-next g c =
-    let e : c.loop-u.u ≡ c.args.nodes = omega arith in
-    omega (arith, c.loop-u.invariant.next, few_pairs c.args.nodes c.requires.nodes, ap (λ u. u * c.args.nodes) e)
-
-pub returns-clause-few : goal.returns-clause-few
-returns-clause-few g c =
-    let e : c.loop-u.u ≡ c.args.nodes = omega arith in
-    omega (arith, c.loop-u.invariant.few, few_pairs c.args.nodes c.requires.nodes, ap (λ u. u * c.args.nodes) e)

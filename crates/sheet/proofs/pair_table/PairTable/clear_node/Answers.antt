@@ -1,10 +1,7 @@
 use Rattle.std.proofs.Common.{ap, ◌∙◌, arith}
 use Rattle.sheet.specs.Tables.{Table, put, table}
-use Rattle.sheet.proofs.Cleared.{cleared_all, cleared_more, cleared_none}
+use Rattle.sheet.proofs.Cleared.{cleared_all, cleared_more}
 use Rattle.sheet.proofs.pair_table.PairTable.clear_node.Goals as goal
-
-pub loop-k-init : goal.loop-k-init
-loop-k-init c = cleared_none _ (table c.args.self.now.numbers)
 
 pub loop-k-preserved : goal.loop-k-preserved
 loop-k-preserved c =
