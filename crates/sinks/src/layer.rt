@@ -20,7 +20,7 @@ pub(crate) trait Layer: Copy {
         ensures longest { result.1 ≡ layer_longest (layer self.now) below.0 below.1 };
 
     // A clause that it takes as it is stored below, which lies at the front of `out`. (Limits come as the
-    // pair that a sink tells.)
+    // pair that a sink tells; the clause and the buffer are two loans of one call.)
     fn store<'o>(&self, clause: &[i32], below: (u32, u32), out: &'o mut [i32; 256]) -> &'o [i32]
         requires bounds { (below.0 ≤ 1_073_741_823) × (below.1 ≤ 256) }
         requires taken { form_refusal (layer_top (layer self.now) below.0) (layer_longest (layer self.now) below.0 below.1) clause.now ≡ None }
