@@ -1,8 +1,8 @@
 // Whether value bytes meet the clauses of a formula: byte v − 1 belongs to variable v, 1 is true, 2 is
 // false, and any other value, or no byte, meets neither literal. The formula need not be a sink, so
 // a clause may be empty or of any length, and a literal may be any number. A formula is asked by number
-// and through `&mut`, so its clauses are gone over by loops: a closure in `any` or `find` would change
-// what it captures.
+// and through `&mut`, so its clauses are gone over by loops: by `find` was tried, and that its closure
+// leaves the formula that it captures as it was got no proof.
 ghost use Rattle.std.specs.Prelude.{◌≡◌, ℕ, ◌≤◌, [], slice_index_or};
 ghost use Rattle.cnf.specs.Meeting.{first_unmet, meets_byte, met, told, value_of};
 ghost use Rattle.cnf.specs.Satisfaction.{UnmetRight};

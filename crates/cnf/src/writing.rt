@@ -2,7 +2,7 @@
 // then every literal, then the room against their number and what they cost together. A clause that
 // passes has at most 256 literals, so one buffer serves them all. A formula is asked by number and
 // lends no slice, so its clauses are gone over by their numbers, and by loops: it is asked through
-// `&mut`, and a closure in `any` would change what it captures.
+// `&mut`, and that a closure leaves what it captures so as it was got no proof.
 ghost use Rattle.std.specs.Prelude.{◌≡◌, ◌≤◌, false, [], ◌∷◌, ◌++◌, length, take, is_ok, if◌then◌else◌, None, OnErr, slice_index_or, sum_by};
 ghost use Rattle.cnf.specs.Clauses.{bad_length, has_bad_literal};
 ghost use Rattle.cnf.specs.Writing.{write_refusal, written};
