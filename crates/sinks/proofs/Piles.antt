@@ -3,12 +3,13 @@
 use Rattle.std.specs.List.{slice_get}
 use Rattle.std.proofs.Common.{◌≡◌, ℕ, zero, suc, ◌-◌, ◌<◌, ◌≤◌, Bool, true, false, cond, List, [], ◌∷◌, ◌++◌, map, length, get_or, drop, Some, None, Option, unwrap_or, sym, refl, ap, ◌∙◌, arith}
 use Rattle.std.proofs.Math.ListN.{get_or-map}
+use Rattle.std.proofs.lemmas.Bool.{false≢true}
 use Rattle.std.proofs.lemmas.Option.{slice_get-map, slice_get_past}
 use Rattle.cnf.proofs.Copies.{length_or_zero}
 use Rattle.cnf.specs.Clauses.{Clause}
 use Rattle.cnf.specs.States.{Layer, State, add_refusal, added, form_refusal, guard, lowered, offset, read_as, stored_as}
 use Rattle.cnf.specs.declared.refusal.SinkRefusal.{SinkRefusal}
-use Rattle.sinks.specs.Layers.{layer_longest, layer_top, layered, read_by, read_literal, shown, stored_by}
+use Rattle.sinks.specs.Layers.{layer_longest, layer_top, layered, read_by, read_literal, reads_all, shown, stored_by}
 use Rattle.sinks.proofs.Forms.{form_parts, priced_taken, refused_for_room, room_refusal}
 use Rattle.sinks.proofs.Guards.{guard_form, length_without_last, nth_without_last, without_last_push}
 use Rattle.sinks.proofs.Offsets.{all_lowered_raised, offset_form}
@@ -58,6 +59,14 @@ pub literal_read
 literal_read l cs k j h =
     let e = read_at l cs k in
     ap (λ c. slice_get c j) e ∙ nth_read l (get_or cs k []) j (omega (arith, ap length e, h))
+
+-- a literal of a layer that reads all of them
+pub literal_in_place
+    : (l : Layer) (cs : List Clause) (k j : ℕ) → reads_all l ≡ true
+    → slice_get (get_or (map (read_by l) cs) k []) j ≡ option_map (read_literal l) (slice_get (get_or cs k []) j)
+literal_in_place (guard g) cs k j h = absurd (false≢true h)
+literal_in_place (offset d) cs k j h =
+    ap (λ c. slice_get c j) (read_at (offset d) cs k) ∙ slice_get-map (lowered d) (get_or cs k []) j
 
 -- a clause that a layer takes is taken below, and is read back unchanged
 pub taken_below
@@ -120,3 +129,17 @@ literal_told l cs k j h = literal_read l cs k j (omega (arith, length_or_zero (m
 pub literal_untold
     : (cs : List Clause) (k j : ℕ) → unwrap_or (option_map length (slice_get cs k)) 0 ≤ j → slice_get (get_or cs k []) j ≡ None
 literal_untold cs k j h = slice_get_past (get_or cs k []) j (omega (arith, length_or_zero cs k, h))
+
+-- and by how many the clause below is told to have
+shown_of : (l : Layer) (cs : List Clause) (k : ℕ) → length (get_or (map (read_by l) cs) k []) ≡ shown l (unwrap_or (option_map length (slice_get cs k)) 0)
+shown_of l cs k = ap length (read_at l cs k) ∙ length_read l (get_or cs k []) ∙ ap (shown l) (sym (length_or_zero cs k))
+
+pub literal_shown
+    : (l : Layer) (cs : List Clause) (k j : ℕ) → j < shown l (unwrap_or (option_map length (slice_get cs k)) 0)
+    → slice_get (get_or (map (read_by l) cs) k []) j ≡ option_map (read_literal l) (slice_get (get_or cs k []) j)
+literal_shown l cs k j h = literal_read l cs k j (omega (arith, shown_of l cs k, h))
+
+pub literal_hidden
+    : (l : Layer) (cs : List Clause) (k j : ℕ) → shown l (unwrap_or (option_map length (slice_get cs k)) 0) ≤ j
+    → slice_get (get_or (map (read_by l) cs) k []) j ≡ None
+literal_hidden l cs k j h = slice_get_past (get_or (map (read_by l) cs) k []) j (omega (arith, shown_of l cs k, h))

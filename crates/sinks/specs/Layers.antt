@@ -1,5 +1,6 @@
 -- What a layer over a sink means, from what the sink below means. Assumes nothing.
 --     stored_by l c, read_by l c     a clause as a layer stores it below; a clause below as a layer reads it
+--     reads_all l                    a layer reads every literal of a clause, each in its place
 --     shown l n                      how many literals a layer reads of a clause of n
 --     read_literal l z               a literal below as a layer reads it
 --     guard_longest g top longest    the most literals that a guard takes: one less than below, or none where its literal is bad
@@ -8,7 +9,7 @@
 --     priced top longest cost stored c    what a clause costs below as it is stored there, or 0 where it is refused here
 --     layered l s                    a layer over a sink: itself on the layers below, with the same bottom
 --     guarded g s, shifted d s       a guard with literal g; an offset by d
-use Rattle.std.specs.Prelude.{ℕ, ◌-◌, cond, [], ◌∷◌, ℤ}
+use Rattle.std.specs.Prelude.{ℕ, ◌-◌, Bool, true, false, cond, [], ◌∷◌, ℤ}
 use Rattle.cnf.specs.Clauses.{Clause, bad_length, bad_literal, has_bad_literal}
 use Rattle.cnf.specs.States.{Layer, State, guard, lowered, offset, read_as, stored_as}
 
@@ -17,6 +18,10 @@ stored_by l c = stored_as (l ∷ []) c
 
 abbrev pub read_by : Layer → Clause → Clause
 read_by l c = read_as (l ∷ []) c
+
+abbrev pub reads_all : Layer → Bool
+reads_all (guard g) = false
+reads_all (offset d) = true
 
 abbrev pub shown : Layer → ℕ → ℕ
 shown (guard g) n = n - 1

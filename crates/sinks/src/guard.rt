@@ -43,6 +43,10 @@ impl Layer for GuardLiteral {
         put_onto(clause, self.literal, out)
     }
 
+    fn reads_all(&self) -> bool {
+        false
+    }
+
     fn shown(&self, n: u32) -> u32 {
         n.saturating_sub(1)
     }

@@ -2,7 +2,7 @@
 // below, and how a clause below is read. Every layer makes a sink over every sink in the same way.
 ghost use Rattle.std.specs.Prelude.{◌≡◌, ◌≤◌, map, length, None, IfOk};
 ghost use Rattle.cnf.specs.States.{Layer, form_refusal};
-ghost use Rattle.sinks.specs.Layers.{layer_longest, layer_top, layered, read_by, read_literal, shown, stored_by};
+ghost use Rattle.sinks.specs.Layers.{layer_longest, layer_top, layered, read_by, read_literal, reads_all, shown, stored_by};
 ghost use Rattle.std.specs.Result.{result_err};
 
 use cnf::form::check_form;
@@ -25,6 +25,10 @@ pub(crate) trait Layer: Copy {
         requires bounds { (below.0 ≤ 1_073_741_823) × (below.1 ≤ 256) }
         requires taken { form_refusal (layer_top (layer self.now) below.0) (layer_longest (layer self.now) below.0 below.1) clause.now ≡ None }
         ensures { result.now ≡ stored_by (layer self.now) clause.now };
+
+    // Whether it reads every literal of a clause, each in its place.
+    fn reads_all(&self) -> bool
+        ensures { result ≡ reads_all (layer self.now) };
 
     // How many literals it reads of a clause of `n`.
     fn shown(&self, n: u32) -> u32
@@ -88,11 +92,15 @@ impl<S: Sink, L: Layer> Formula for Layered<S, L> {
         Some(self.layer.shown(n))
     }
 
-    #[tactic(auto, using(crate::proofs::Piles::literal_told, crate::proofs::Piles::literal_untold))]
+    #[tactic(auto, using(crate::proofs::Piles::literal_in_place, crate::proofs::Piles::literal_shown, crate::proofs::Piles::literal_hidden))]
     fn literal(&mut self, k: u32, j: u32) -> Option<i32> {
-        let n = self.length(k)?;
-        if j >= n {
-            return None;
+        // the clause's length is asked below only for a layer that hides some of its literals: each layer
+        // of a pile would ask all those under it, once for every literal
+        if !self.layer.reads_all() {
+            let n = self.below.length(k)?;
+            if j >= self.layer.shown(n) {
+                return None;
+            }
         }
         let literal = self.below.literal(k, j)?;
         Some(self.layer.read(literal))

@@ -73,6 +73,10 @@ impl Layer for OffsetShift {
         raise_all(clause, below.0, self.shift, out)
     }
 
+    fn reads_all(&self) -> bool {
+        true
+    }
+
     fn shown(&self, n: u32) -> u32 {
         n
     }
