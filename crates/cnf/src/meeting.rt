@@ -52,18 +52,21 @@ pub fn meets(literal: i32, value: u8) -> bool
     Value::from(value).meets(literal)
 }
 
-// What the byte of a variable tells: nothing where there is no byte. (A `match` and no `map_or`, after
-// which the proof was not told what the conversion gave.)
+// The byte of a variable, or 0, which tells nothing, where there is none.
+pub fn value_byte(values: &[u8], variable: u32) -> u8
+    ensures { result ≡ value_of values.now variable }
+{
+    let Some(place) = (variable as usize).checked_sub(1) else {
+        return 0;
+    };
+    values.get(place).copied().unwrap_or(0)
+}
+
+// What the byte of a variable tells: nothing where there is no byte.
 pub fn value_of(values: &[u8], variable: u32) -> Value
     ensures { result ≡ told (value_of values.now variable) }
 {
-    let Some(place) = (variable as usize).checked_sub(1) else {
-        return Value::Unknown;
-    };
-    match values.get(place) {
-        Some(byte) => Value::from(*byte),
-        None => Value::Unknown,
-    }
+    Value::from(value_byte(values, variable))
 }
 
 // Whether some of these literals is met. (A loop and not `any`: the project's form for this search.)

@@ -1,18 +1,25 @@
 // Which pipes are open, by the value bytes of their valves: what is true of a valve is that it is open.
 ghost use Rattle.std.specs.Prelude.{◌≡◌, if◌then◌else◌, Some, None};
-ghost use Rattle.judge.specs.Values.{first_unknown, is_open, is_unknown, opens};
+ghost use Rattle.judge.specs.Values.{first_unknown, is_known, is_open, is_unknown, opens};
 ghost use Rattle.sheet.specs.View.{view};
 
 use crate::digraph::Digraph;
-use cnf::meeting::{Value, value_of};
+use cnf::meeting::{Value, value_byte};
 use sheet::place::Sheet;
 
 // Whether a pipe is open at the value byte of its valve: 1 is open. (A byte, since the caller's buffer
-// holds bytes, and the question is for every byte; what is asked below is known as a value already.)
+// holds bytes, and the question is for every byte.)
 pub fn is_open(value: u8) -> bool
     ensures { result ≡ is_open value }
 {
     Value::from(value) == Value::True
+}
+
+// Whether a value byte tells a position: open, or shut.
+fn is_known(value: u8) -> bool
+    ensures { result ≡ is_known value }
+{
+    is_open(value) || Value::from(value) == Value::False
 }
 
 // The open pipes of a sheet.
@@ -34,7 +41,7 @@ impl<'s, 'v> Digraph for OpenPipes<'s, 'v> {
     fn leads(&self, u: u32, w: u32) -> bool {
         self.sheet
             .valve(u, w)
-            .is_some_and(|valve| value_of(self.values, valve) == Value::True)
+            .is_some_and(|valve| is_open(value_byte(self.values, valve)))
     }
 }
 
@@ -45,7 +52,7 @@ impl OpenPipes<'_, '_> {
     {
         self.sheet
             .valve(u, w)
-            .filter(|valve| value_of(self.values, *valve) == Value::Unknown)
+            .filter(|valve| !is_known(value_byte(self.values, *valve)))
     }
 
     // The first drawn valve, by ascending pairs of nodes, whose byte tells no position. (One search
