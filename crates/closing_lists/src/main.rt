@@ -5,46 +5,43 @@
 
 ghost use Rattle.std.specs.Prelude.{◌<◌};
 
+use bounded::Bounded;
 use closings::arc::Arc;
 use closings::closing::Closing;
 use closings::named::NamedClosing;
 use closings::remaining::Remaining;
-use std::alloc::{AllocError, Global};
 use std::io;
 use trials::Sequence;
 
-// Those pairs of the nodes that are chosen.
+// Lists those pairs of the nodes that are chosen. (There is room: 4,096 places hold all pairs of 64 nodes.
+// Nothing is allocated, so that no run ends for want of memory.)
 fn draw<F: FnMut(u32, u32) -> bool>(
-    alloc: Global,
+    pairs: &mut Bounded<'_, (u32, u32)>,
     nodes: u32,
     mut is_chosen: F,
-) -> Result<Vec<(u32, u32)>, AllocError>
+)
     requires { F.IsAlwaysCallable is_chosen }
 {
-    let mut pairs = Vec::new(alloc);
     for from in 0..nodes {
         for to in 0..nodes {
             if is_chosen(from, to) {
-                pairs.push((from, to))?;
+                let _ = pairs.push((from, to));
             }
         }
     }
-    Ok(pairs)
 }
 
-// The pairs as arcs, each on the next of the variables.
+// Lists the pairs as arcs, each on the next of the variables.
 fn number<I: Iterator<Item = u32> + Drop>(
-    alloc: Global,
+    arcs: &mut Bounded<'_, Arc>,
     pairs: &[(u32, u32)],
     variables: I,
-) -> Result<Vec<Arc>, AllocError>
+)
     requires { I.can_next variables }
 {
-    pairs
-        .iter()
-        .zip(variables)
-        .map(|(&(from, to), variable)| Arc { from, to, variable })
-        .collect(alloc)
+    for (&(from, to), variable) in pairs.iter().zip(variables) {
+        let _ = arcs.push(Arc { from, to, variable });
+    }
 }
 
 // Prints clause k of a closing. (Other programs print a formula's: a closing is asked with its graph.)
@@ -96,25 +93,33 @@ fn print_graph(
 
 fn main(rt: HostRuntime) -> io::Result<()> {
     let mut numbers = Sequence { state: 9 };
+    let mut pair_places = [(0, 0); 4096];
+    let mut arc_places = [Arc::default(); 4096];
+    let mut pairs = Bounded::new(&mut pair_places);
+    let mut arcs = Bounded::new(&mut arc_places);
     for _ in 0..40 {
         let nodes = numbers.below(6);
-        let pairs = draw(rt.alloc(), nodes, |from, to| {
+        pairs.clear();
+        draw(&mut pairs, nodes, |from, to| {
             numbers.below(3) == 0 && from != to
-        })?;
+        });
         let last = u32::try_from(pairs.len()).unwrap_or(u32::MAX);
-        let arcs = if numbers.below(2) == 1 {
+        arcs.clear();
+        if numbers.below(2) == 1 {
             // the variables fall while the pairs rise
-            number(rt.alloc(), &pairs, (1..=last).rev())?
+            number(&mut arcs, pairs.as_slice(), (1..=last).rev());
         } else {
-            number(rt.alloc(), &pairs, 1..=last)?
-        };
+            number(&mut arcs, pairs.as_slice(), 1..=last);
+        }
         let gap = numbers.below(3).saturating_add(1);
         println!(rt; "graph {nodes}")?;
-        print_graph(&rt, nodes, &arcs, last.saturating_add(gap), 1)?;
+        print_graph(&rt, nodes, arcs.as_slice(), last.saturating_add(gap), 1)?;
     }
     // the largest graph, whose arcs take the variables below the first free one
-    let pairs = draw(rt.alloc(), 64, |from, to| from != to)?;
+    pairs.clear();
+    draw(&mut pairs, 64, |from, to| from != to);
     let first = 64 * 63 + 1;
-    let arcs = number(rt.alloc(), &pairs, 1..first)?;
-    print_graph(&rt, 64, &arcs, first, 9_973)
+    arcs.clear();
+    number(&mut arcs, pairs.as_slice(), 1..first);
+    print_graph(&rt, 64, arcs.as_slice(), first, 9_973)
 }
