@@ -25,7 +25,7 @@ impl Sheet {
     {
         match self.check_draw(token.number, pipe) {
             Ok(()) => {
-                self.pipes.set(pipe.from, pipe.to, Some(pipe.valve));
+                self.pipes.set(pipe.from, pipe.to, pipe.valve);
                 Ok(token)
             }
             Err(refusal) => Err(Refused { token, refusal }),

@@ -16,3 +16,4 @@ pub mod reading;
 pub mod refusal;
 pub mod starting;
 pub mod token;
+mod valve_table;

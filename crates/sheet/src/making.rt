@@ -10,6 +10,7 @@ use crate::phase::Phase;
 use crate::place::Sheet;
 use crate::refusal::SheetRefusal;
 use crate::token::DrawingToken;
+use crate::valve_table::ValveTable;
 
 impl Sheet {
     // A place where no sheet has been made: one node, one valve and no phase.
@@ -52,7 +53,7 @@ impl Sheet {
             phase,
             nodes,
             valves,
-            pipes: PairTable::new(),
+            pipes: ValveTable::new(),
             arcs: Arcs {
                 variables: PairTable::new(),
                 next: valves + 1,

@@ -1,11 +1,11 @@
-// Numbers for the ordered pairs of 64 nodes: the valves of pipes, the variables of arcs.
+// Numbers for the ordered pairs of 64 nodes: the variables of arcs.
 ghost use Rattle.std.specs.Prelude.{◌≡◌, ◌<◌, unwrap_or};
 ghost use Rattle.sheet.specs.Tables.{blank, entry, put, table, without};
 
 #[derive(Clone, Copy)]
 pub(crate) struct PairTable {
     // 64 rows of 64 places, so that ascending places are ascending pairs; 0 for none: an array of
-    // `Option<u32>` would take twice the fixed memory of every sheet, and `Option<NonZeroU32>` here too
+    // `Option<u32>` would take twice its memory, and `Option<NonZeroU32>` here too
     pub(crate) numbers: [u32; 4096],
 }
 

@@ -5,8 +5,8 @@ ghost use Rattle.sheet.specs.Phases.{is_fresh};
 ghost use Rattle.sheet.specs.Tables.{Above, Apart, Below, Joins, Staying, Upto, table};
 
 use crate::arcs::Arcs;
-use crate::pair_table::PairTable;
 pub use crate::phase::Phase;
+use crate::valve_table::ValveTable;
 
 // A sheet of nodes, numbered from 0, and valves, numbered from 1. (Contracts name its view, and it has
 // no `Model`: a call that is refused leaves the same sheet in memory, which no clause on models says.)
@@ -18,7 +18,7 @@ pub struct Sheet {
     pub(crate) nodes: u32,
     pub(crate) valves: u32,
     // the valve of the pipe at each ordered pair of nodes
-    pub(crate) pipes: PairTable,
+    pub(crate) pipes: ValveTable,
     // the arcs, and the next free variable
     pub(crate) arcs: Arcs,
     // whether each node has been eliminated; the nodes are the first of the 64, since a sheet lies in
