@@ -6,14 +6,18 @@ ghost use Rattle.std.specs.Prelude.{◌≡◌};
 
 use crate::refusal::SinkRefusal;
 
-// Whether some literal of a clause is 0 or stands on a variable above `top`.
+// Whether some literal of a clause is 0 or stands on a variable above `top`. (A loop and not `any`: of
+// this one the compiler takes several literals at a time, and every layer of a pile asks it.)
 pub fn has_bad_literal(clause: &[i32], top: u32) -> bool
     ensures { result ≡ has_bad_literal top clause.now }
 {
-    clause.iter().any(|literal| {
+    for literal in clause {
         let variable = literal.unsigned_abs();
-        variable == 0 || variable > top
-    })
+        if variable == 0 || variable > top {
+            return true;
+        }
+    }
+    false
 }
 
 // Refuses a clause that is empty or longer than `longest`, or has such a literal.
