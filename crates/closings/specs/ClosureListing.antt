@@ -12,7 +12,7 @@ use Rattle.closings.specs.Inputs.{Input, arc_count}
 use Rattle.closings.specs.Ranges.{each, upto}
 use Rattle.closings.specs.RangesLemmas.{factor_positive, length_each, length_upto, nth_each, nth_left, nth_right, nth_upto}
 
-positive_cube : (a k : ℕ) → k < a * (a * a) → 0 < a
+pub positive_cube : (a k : ℕ) → k < a * (a * a) → 0 < a
 positive_cube zero k h = omega (arith, zero-mul (0 * 0))
 positive_cube (suc a) k h = omega arith
 

@@ -8,7 +8,7 @@ use Rattle.graph.specs.Walks.{Edges}
 use Rattle.graph.proofs.Counts.{count_some, has_absent, least_none, least_passes}
 use Rattle.judge.specs.Placing.{in_degree, next_node, order, outside}
 use Rattle.judge.specs.Verdict.{is_stuck}
-use Rattle.judge.specs.Walking.{ring, source, turned, walk_back, way_back}
+use Rattle.judge.specs.Walking.{ring, ring_among, source, turned, walk_back, way_back}
 use Rattle.judge.proofs.DistinctLists.{Below, below_cons, distinct_cons, distinct_count}
 use Rattle.judge.proofs.OrderLaw.{order_count, order_none_next}
 use Rattle.judge.proofs.TurnedLists.{Linked, lowest_is, turned_length, turned_ring}
@@ -32,6 +32,12 @@ module _ (n : ℕ) (r : Edges) (unplaced : ℕ → Bool) where
         | inl l ↦ rw (lt-ltb _ _ l) (simp length-take (omega arith))
         | inr g ↦ let i = walk_few k (newest_source trail ∷ trail) in rw (le-ltb _ _ g) (omega arith)
       ]
+
+  -- a ring that is found among any nodes has at most n of them
+  pub ring_among_few : length (ring_among r n unplaced) ≤ n
+  ring_among_few =
+      let m = turned_length (walk_back r n unplaced n (least n unplaced ∷ [])) in
+      let w = walk_few n (least n unplaced ∷ []) in omega arith
 
   -- distinct nodes below n, the newest of them unplaced, with an edge from each to the next
   pub record Trail (trail : List ℕ) : Type 0 where
@@ -127,8 +133,7 @@ module _ (n : ℕ) (r : Edges) where
 
   -- a ring has at most n nodes
   pub ring_few : length (ring r n) ≤ n
-  ring_few =
-      let m = turned_length (way_back r n) in let w = walk_few n r left n (least n left ∷ []) in omega arith
+  ring_few = ring_among_few n r left
 
   -- the walk's part, turned to its smallest node
   module _ (part : List ℕ) (t : is_stuck r n ≡ true) (is : part ≡ way_back r n) where

@@ -9,16 +9,16 @@ use Rattle.graph.specs.Walks.{Edges}
 use Rattle.judge.specs.Walking.{lowest, turned}
 use Rattle.judge.proofs.DistinctLists.{distinct_same}
 
-lowest_zero : (ns : List ℕ) → lowest ns 0 ≡ 0
+pub lowest_zero : (ns : List ℕ) → lowest ns 0 ≡ 0
 unfolding lowest
 lowest_zero ns = refl
 
-lowest_suc
+pub lowest_suc
     : (ns : List ℕ) (k : ℕ) → lowest ns (suc k) ≡ cond (ltb (get_or ns k 0) (get_or ns (lowest ns k) 0)) k (lowest ns k)
 unfolding lowest
 lowest_suc ns k = refl
 
-lowest_before : (ns : List ℕ) (k : ℕ) → lowest ns k ≤ k - 1
+pub lowest_before : (ns : List ℕ) (k : ℕ) → lowest ns k ≤ k - 1
 lowest_before ns zero = let z = lowest_zero ns in omega arith
 lowest_before ns (suc k) = let i = lowest_before ns k in rw (lowest_suc ns k) (grind (arith, nat_tests))
 

@@ -1,5 +1,5 @@
 -- One turn of the loop that walks back, and the turning of the part that it finds.
-use Rattle.std.proofs.Common.{◌≡◌, ℕ, suc, ◌+◌, ◌-◌, ◌<◌, ◌≤◌, Bool, true, false, ◌&&◌, eqb, ltb, List, [], ◌∷◌, length, get_or, take, drop, set, Some, None, sym, refl, ap, ◌∙◌, subst, inl, inr, arith}
+use Rattle.std.proofs.Common.{◌≡◌, ℕ, zero, suc, ◌+◌, ◌-◌, ◌<◌, ◌≤◌, Bool, true, false, ◌&&◌, eqb, ltb, List, [], ◌∷◌, length, get_or, take, drop, set, Some, None, sym, refl, ap, ◌∙◌, subst, inl, inr, arith}
 use Rattle.graph.specs.Counts.{least, place}
 use Rattle.graph.specs.Walks.{Edges}
 use Rattle.graph.proofs.Counts.{count_none, has_absent, least_passes, least_same}
@@ -10,7 +10,7 @@ use Rattle.judge.specs.Marks.{unmarked}
 use Rattle.judge.specs.Placed.{Marked}
 use Rattle.judge.specs.Placing.{order}
 use Rattle.judge.specs.Verdict.{is_stuck}
-use Rattle.judge.specs.Walking.{source, walk_back, way_back}
+use Rattle.judge.specs.Walking.{ring_among, source, turned, walk_back, way_back}
 use Rattle.judge.proofs.DistinctLists.{distinct_count}
 use Rattle.judge.proofs.First.{none_found, some_found}
 use Rattle.judge.proofs.OrderLaw.{order_count, order_none_next}
@@ -135,3 +135,19 @@ module _ (r : Edges) (n : ℕ) (marks : List ℕ) (same : Marked r n marks) wher
             rest = rw d (sym (back_more r n (left n r) (n - (64 - (head - 1))) trail u is_source m)
                 ∙ ap (λ k. walk_back r n (left n r) k trail) (sym one_less) ∙ s.rest);
           }
+
+-- a ring depends on the nodes below n alone among which it is looked for
+module _ (r : Edges) (n : ℕ) (p q : ℕ → Bool) (same : (u : ℕ) → u < n → p u ≡ q u) where
+  same_source : (w : ℕ) → source r n p w ≡ source r n q w
+  same_source w = least_same n _ _ (λ u h. ap (λ b. b && r u w) (same u h))
+
+  pub walk_same : (k : ℕ) (trail : List ℕ) → walk_back r n p k trail ≡ walk_back r n q k trail
+  unfolding walk_back
+  walk_same zero trail = refl
+  walk_same (suc k) trail =
+      let s = same_source (get_or trail 0 0) in
+      let i = walk_same k (source r n q (get_or trail 0 0) ∷ trail) in rw (s, i) refl
+
+  pub ring_among_same : ring_among r n p ≡ ring_among r n q
+  ring_among_same =
+      ap turned (walk_same n (least n p ∷ []) ∙ ap (λ u. walk_back r n q n (u ∷ [])) (least_same n p q same))

@@ -23,7 +23,7 @@ use Rattle.std.proofs.lemmas.Bool.Decides.{nat_tests}
 range_more : (k : ℕ) → range_with_len 0 (k + 1) ≡ range_with_len 0 k ++ (k ∷ [])
 range_more k = sym (map-id (range_with_len 0 (k + 1))) ∙ map-range_with_len_more (λ x. x) 0 k k (omega arith) ∙ ap (λ xs. xs ++ (k ∷ [])) (map-id (range_with_len 0 k))
 
-least_among_more : (s : View) (k : ℕ) → least_among s (k + 1) ≡ better s (least_among s k) k
+pub least_among_more : (s : View) (k : ℕ) → least_among s (k + 1) ≡ better s (least_among s k) k
 least_among_more s k = ap (fold (better s) None) (range_more k) ∙ fold-append (better s) None (range_with_len 0 k) (k ∷ [])
 
 -- the best of the nodes below k has the fewest arcs among them; where there is none, they are all out

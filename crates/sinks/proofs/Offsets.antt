@@ -21,10 +21,10 @@ lowered_raised d (negsuc n) h =
     let e : n + d - d ≡ n = omega arith in
     ap (λ (b : Bool). cond b (negsuc (n + d - d)) (negsuc (n + d))) t ∙ ap negsuc e
 
-good_bounds : (top : ℕ) (z : ℤ) → bad_literal top z ≡ false → (0 < nat_abs z) × (nat_abs z ≤ top)
+pub good_bounds : (top : ℕ) (z : ℤ) → bad_literal top z ≡ false → (0 < nat_abs z) × (nat_abs z ≤ top)
 good_bounds top z h = (grind (arith, nat_tests), grind (arith, nat_tests))
 
-good_at
+pub good_at
     : (top : ℕ) (c : Clause) (i : ℕ) → i < length c → has_bad_literal top c ≡ false → bad_literal top (get_or c i (pos 0)) ≡ false
 good_at top [] i l h = absurd (omega arith)
 good_at top (z ∷ zs) zero l h = (or_parts _ _ h).0

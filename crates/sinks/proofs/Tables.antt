@@ -45,7 +45,7 @@ module _ {ps : List (ℕ × ℕ)} {xs : Clause} (laid_out : LaidOut ps xs) where
     literals_push : xs ++ c ≡ joined (cut ps xs ++ (c ∷ []))
     literals_push = ap (λ ys. ys ++ c) laid_out.literals_are ∙ sym (joined_push (cut ps xs) c)
 
-    cut_push : cut (ps ++ ((length xs, length c) ∷ [])) (xs ++ c) ≡ cut ps xs ++ (c ∷ [])
+    pub cut_push : cut (ps ++ ((length xs, length c) ∷ [])) (xs ++ c) ≡ cut ps xs ++ (c ∷ [])
     cut_push = (λ i. cut (pairs_push i) (literals_push i)) ∙ cut_laid [] (cut ps xs ++ (c ∷ []))
 
     laid_out_push : LaidOut (ps ++ ((length xs, length c) ∷ [])) (xs ++ c)
